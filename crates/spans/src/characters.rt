@@ -1,9 +1,11 @@
 //! Characters and the boundaries between them, in any bytes.
 ghost use mathlib.Core.Path.{_≡_};
+ghost use Prim.Native.Nat.{_≤_};
+ghost use lib.ListN.{length};
 ghost use Rattle.text.specs.Characters.{begins, boundary, characters};
 
-// Whether a character begins with the byte `b`: it does unless `b` is from 80 to BF hex.
-fn begins_character(b: u8) -> bool
+/// Whether a character begins with the byte `b`: it does unless `b` is from 80 to BF hex.
+pub fn begins_character(b: u8) -> bool
     ensures { λ r. ⌜ r ≡ begins b ⌝ }
 {
     b < 0x80 || b > 0xBF
@@ -11,7 +13,8 @@ fn begins_character(b: u8) -> bool
 
 /// How many characters begin in `bytes`.
 pub fn count_characters(bytes: &[u8]) -> usize
-    ensures { λ r. ⌜ r ≡ characters (now (bytes .entry)) ⌝ }
+    ensures value { λ r. ⌜ r ≡ characters (now (bytes .entry)) ⌝ }
+    ensures bound { λ r. ⌜ r ≤ length (now (bytes .entry)) ⌝ }
 {
     let mut n: usize = 0;
     for b in bytes {

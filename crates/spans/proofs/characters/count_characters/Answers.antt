@@ -19,4 +19,4 @@ loop-b-again c =
     ]
 
 pub returns : need.returns
-returns c = c .loop-b .inv .0 ∙ ap characters (take-all (c .loop-b .b-index) (c .args .bytes .now) (omega arith))
+returns c = record { value = c .loop-b .inv .0 ∙ ap characters (take-all (c .loop-b .b-index) (c .args .bytes .now) (omega arith)); bound = omega arith }
