@@ -6,6 +6,7 @@ ghost use lib.ListN.{length};
 ghost use Rattle.lines.specs.Rising.{Rising, noted};
 
 /// Where the lines of a text begin: 0 and then rising, in a buffer that the caller lends.
+#[derive(Drop)]
 pub struct LineIndex<'b> {
     pub(crate) line_offsets: &'b mut [u32],
     // how many lines begin after the first, which begins at 0 whatever the buffer holds

@@ -25,13 +25,6 @@ impl<'i> Span<'i> {
         Ok(Span { input, start, end })
     }
 
-    /// The text that this is a span of.
-    pub fn input(&self) -> &'i [u8]
-        ensures { λ r. ⌜ now r ≡ now (now (self .entry) .input) ⌝ }
-    {
-        self.input
-    }
-
     /// The offset at which the span starts.
     pub fn start(&self) -> u32
         ensures { λ r. ⌜ r ≡ now (self .entry) .start ⌝ }
