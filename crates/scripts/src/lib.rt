@@ -1,0 +1,5 @@
+//! Scripts: what a script's lines say, the text that they make, and the refusals.
+pub mod commands;
+pub mod lines;
+mod parts;
+pub mod words;
