@@ -3,3 +3,4 @@ pub mod commands;
 pub mod lines;
 mod parts;
 pub mod words;
+pub mod faults;
