@@ -15,7 +15,10 @@ impl TooLong {
     pub fn refusal(&self) -> Refusal
         ensures { λ r. ⌜ r ≡ tooLongRefusal (now (self .entry)) ⌝ }
     {
-        Refusal { number: 1, place: self.length }
+        Refusal {
+            number: 1,
+            place: self.length,
+        }
     }
 }
 
@@ -35,7 +38,10 @@ impl TextFault {
     {
         match self {
             TextFault::Long(long) => long.refusal(),
-            TextFault::Malformed { at } => Refusal { number: 2, place: *at as u64 },
+            TextFault::Malformed { at } => Refusal {
+                number: 2,
+                place: *at as u64,
+            },
         }
     }
 }
