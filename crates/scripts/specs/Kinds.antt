@@ -16,4 +16,4 @@ kindName Grammar = codes "grammar"
 abbrev pub kindOf : List ℕ → Option Kind
 kindOf line =
     cond (sameBytes line (kindName Plant)) (Some Plant)
-      (cond (sameBytes line (kindName Grammar)) (Some Grammar) None)
+    (cond (sameBytes line (kindName Grammar)) (Some Grammar) None)

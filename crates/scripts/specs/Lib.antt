@@ -6,3 +6,4 @@ pub mod Faults
 pub mod Kinds
 pub mod Outcomes
 pub mod Reading
+pub mod Laws

@@ -1,7 +1,7 @@
 -- What a script comes to, line by line, before its text is tested.
 use mathlib.Core.Bool.{cond}
 use mathlib.Core.List.{List, [], _∷_, _++_}
-use Prim.Native.Nat.{ℕ, _+_}
+use Prim.Native.Nat.{ℕ, _+_, _-_}
 use lib.Dec.{eqb, ltb}
 use lib.ListN.{length, take}
 use Rattle.std.specs.declared.option.Option.{Option}
@@ -47,9 +47,9 @@ abbrev pub body : (size place line : ℕ) (text : List ℕ) → List (List ℕ) 
 body size place line text [] = refused (lineRefusal line size)
 body size place line text (l ∷ ls) =
     ordered (lineOrder l)
-      (refused (lineRefusal line place))
-      (shown text line (afterShow (line + 1) (place + length l + 1) ls))
-      (λ part. body size (place + length l + 1) (line + 1) (text ++ part) ls)
+    (refused (lineRefusal line place))
+    (shown text line (afterShow (line + 1) (place + length l + 1) ls))
+    (λ part. body size (place + length l + 1) (line + 1) (text ++ part) ls)
 
 abbrev pub named : Option Kind → Outcome → Outcome → Outcome
 named None other goes = other
@@ -60,6 +60,16 @@ abbrev pub headed : ℕ → List (List ℕ) → Outcome
 headed size [] = refused (lineRefusal 1 size)
 headed size (l ∷ ls) = named (kindOf l) (refused (lineRefusal 1 0)) (body size (length l + 1) 2 [] ls)
 
+-- the same of a script, and of what is left of one of this size
+abbrev pub started : List ℕ → Outcome
+started script = headed (length script) (lines script)
+
+abbrev pub left : (size line : ℕ) (text rest : List ℕ) → Outcome
+left size line text rest = body size (size - length rest) line text (lines rest)
+
+abbrev pub shownBefore : (size line : ℕ) (text after : List ℕ) → Outcome
+shownBefore size line text after = shown text line (afterShow (line + 1) (size - length after) (lines after))
+
 -- the number of the line in which the byte after these stands
 abbrev pub lineAfter : List ℕ → ℕ
 lineAfter bytes = countBy (λ b. eqb b 10) bytes + 1
@@ -68,5 +78,5 @@ lineAfter bytes = countBy (λ b. eqb b 10) bytes + 1
 abbrev pub outcome : List ℕ → Outcome
 outcome script =
     cond (ltb script-limit (length script))
-      (refused (lineRefusal (lineAfter (take script-limit script)) script-limit))
-      (headed (length script) (lines script))
+    (refused (lineRefusal (lineAfter (take script-limit script)) script-limit))
+    (started script)

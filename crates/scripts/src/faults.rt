@@ -41,7 +41,10 @@ impl ScriptRefusal {
         ensures { λ r. ⌜ r ≡ refusalOf (now (self .entry) .fault) ⌝ }
     {
         match self.fault {
-            ScriptFault::Other { place } => Refusal { number: 18, place: place as u64 },
+            ScriptFault::Other { place } => Refusal {
+                number: 18,
+                place: place as u64,
+            },
             ScriptFault::Text(fault) => fault.refusal(),
         }
     }

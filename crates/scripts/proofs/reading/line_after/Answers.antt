@@ -24,13 +24,14 @@ pub loop-byte-again : need.loop-byte-again
 loop-byte-again c =
     let i = c .loop-byte .byte-index in
     let front = c .args .front .now in
-    elim (c .if-byte-eq10 .came)
-      [ then-byte-eq10 w ↦
+    elim (c .if-byte-eq10 .came) [
+      | then-byte-eq10 w ↦
           let n : countBy ends (take (i + 1) front) ≡ countBy ends (take i front) + 1 = countBy-more-yes ends front i 0 (c .loop-byte-test .taken) (eq-eqb (getD front i 0) 10 (w .if-byte-eq10 .taken)) in
           omega (arith, w .line-is, c .loop-byte .inv)
       | else-byte-eq10 w ↦
           let n : countBy ends (take (i + 1) front) ≡ countBy ends (take i front) = countBy-more-no ends front i 0 (c .loop-byte-test .taken) (ne-eqb (getD front i 0) 10 (w .if-byte-eq10 .left)) in
-          omega (arith, w .line-is, c .loop-byte .inv) ]
+          omega (arith, w .line-is, c .loop-byte .inv)
+    ]
 
 pub returns : need.returns
 returns c = c .loop-byte .inv ∙ ap lineAfter (take-all (c .loop-byte .byte-index) (c .args .front .now) (c .loop-byte-test .left))
