@@ -4,7 +4,7 @@ ghost use lib.ListN.{drop};
 ghost use Rattle.scripts.specs.Parts.{upTo};
 
 /// The bytes before the first `stop`, or all of them where there is none.
-pub fn before(bytes: &[u8], stop: u8) -> &[u8]
+pub(crate) fn before(bytes: &[u8], stop: u8) -> &[u8]
     ensures { λ r. ⌜ now r ≡ upTo stop (now (bytes .entry)) ⌝ }
 {
     for (i, byte) in bytes.iter().enumerate() {
@@ -16,7 +16,7 @@ pub fn before(bytes: &[u8], stop: u8) -> &[u8]
 }
 
 /// The bytes from `place` on, none where `place` is past the end.
-pub fn onward(bytes: &[u8], place: usize) -> &[u8]
+pub(crate) fn onward(bytes: &[u8], place: usize) -> &[u8]
     ensures { λ r. ⌜ now r ≡ drop place (now (bytes .entry)) ⌝ }
 {
     if place < bytes.len() {
