@@ -1,5 +1,4 @@
 pub mod Cuts
-pub mod Tested
 pub mod Turns
 pub mod Settled
 pub mod Rewritten

@@ -9,12 +9,12 @@ use Rattle.std.specs.declared.option.Option.{Option}
 use Rattle.std.specs.declared.option.Option.the-variants.{Some, None}
 use Rattle.std.specs.declared.result.Result.{Result}
 use Rattle.std.specs.declared.result.Result.the-variants.{Ok, Err}
-use Rattle.std.proofs.shelf.Tests.{lt-ltb, le-ltb}
+use Rattle.std.proofs.shelf.Tests.{le-ltb, lt-ltb}
 use Rattle.text.specs.declared.faults.TextFault.{TextFault}
 use Rattle.text.specs.Verdicts.{Tested}
 use Rattle.text.proofs.Lawful.{one-verdict}
 use Rattle.scripts.specs.Lines.{lines}
-use Rattle.scripts.specs.Outcomes.{Outcome, refused, shown, shownBefore, afterShow, left, lineAfter, lineRefusal, outcome, script-limit, started}
+use Rattle.scripts.specs.Outcomes.{Outcome, refused, shown, shownBefore, afterShow, left, lineAfter, lineRefusal, outcome, script-limit, sized, started}
 use Rattle.scripts.specs.Reading.{Fails, Settles, Passes, judged, followed}
 use Rattle.scripts.specs.declared.faults.ScriptFault.{ScriptFault}
 use Rattle.scripts.specs.declared.faults.ScriptFault.the-variants.{Text}
@@ -24,15 +24,18 @@ use Rattle.scripts.specs.declared.faults.ScriptRefusal.{ScriptRefusal}
 use Rattle.scripts.proofs.Turns.{lines-step}
 
 -- the size comes first
-pub over : (script : List ℕ) → script-limit < length script → outcome script ≡ refused (lineRefusal (lineAfter (take script-limit script)) script-limit)
+pub over : (script : List ℕ) → script-limit < length script → Err (lineRefusal (lineAfter (take script-limit script)) script-limit) ≡ sized script
 over script h = rw (lt-ltb script-limit (length script) h)
 
+pub under : (script : List ℕ) → length script ≤ script-limit → Ok tt ≡ sized script
+under script h = rw (le-ltb script-limit (length script) h)
+
 pub within : (script : List ℕ) → length script ≤ script-limit → outcome script ≡ started script
-within script h = rw (le-ltb script-limit (length script) h)
+within script h = rw (← under script h)
 
 -- the outcome once the first line is read, with no text yet
-pub reached : (script rest text : List ℕ) → length script ≤ script-limit → started script ≡ left (length script) 2 [] rest → text ≡ [] → outcome script ≡ left (length script) 2 text rest
-reached script rest text small first none = rw none (within script small ∙ first)
+pub reached : (script rest text : List ℕ) → started script ≡ left (length script) 2 [] rest → text ≡ [] → started script ≡ left (length script) 2 text rest
+reached script rest text first none = rw none first
 
 pub settled : {o : Outcome} {f g : ScriptRefusal} → o ≡ refused f → g ≡ f → Settles o (Err g)
 settled e is = rw e (ap Err is)

@@ -6,6 +6,8 @@ use lib.Dec.{eqb, ltb}
 use lib.ListN.{length, take}
 use Rattle.std.specs.declared.option.Option.{Option}
 use Rattle.std.specs.declared.option.Option.the-variants.{Some, None}
+use Rattle.std.specs.declared.result.Result.{Result}
+use Rattle.std.specs.declared.result.Result.the-variants.{Ok, Err}
 use Rattle.std.specs.shelf.Lists.{countBy}
 use Rattle.scripts.specs.Lines.{lines}
 use Rattle.scripts.specs.Kinds.{kindOf}
@@ -74,9 +76,17 @@ shownBefore size line text after = shown text line (afterShow (line + 1) (size -
 abbrev pub lineAfter : List ℕ → ℕ
 lineAfter bytes = countBy (λ b. eqb b 10) bytes + 1
 
+-- a script over the limit is refused at the first byte over it
+abbrev pub sized : List ℕ → Result (Unit {0}) ScriptRefusal
+sized script =
+    cond (ltb script-limit (length script))
+      (Err (lineRefusal (lineAfter (take script-limit script)) script-limit))
+      (Ok tt)
+
+abbrev pub unless : Result (Unit {0}) ScriptRefusal → Outcome → Outcome
+unless (Ok _) o = o
+unless (Err f) o = refused f
+
 -- the size comes before all else
 abbrev pub outcome : List ℕ → Outcome
-outcome script =
-    cond (ltb script-limit (length script))
-    (refused (lineRefusal (lineAfter (take script-limit script)) script-limit))
-    (started script)
+outcome script = unless (sized script) (started script)

@@ -3,6 +3,7 @@ ghost use mathlib.Core.Path.{_≡_};
 ghost use Rattle.std.specs.Options.{mapped};
 ghost use denote.Ref.{now as pointed};
 ghost use Rattle.scripts.specs.Commands.{orderOf, lineOrder, added};
+use crate::parts::spells;
 use crate::words::keyword;
 use crate::words::rest;
 
@@ -35,13 +36,13 @@ impl<'l> Command<'l> {
 pub fn read_command(line: &[u8]) -> Option<Command<'_>>
     ensures { λ r. ⌜ mapped orderOf r ≡ lineOrder (now (line .entry)) ⌝ }
 {
-    if line == b"next" {
+    if spells(line, b"next") {
         return Some(Command::Next);
     }
-    if line == b"show" {
+    if spells(line, b"show") {
         return Some(Command::Show);
     }
-    if keyword(line).bytes() == b"text" {
+    if spells(keyword(line).bytes(), b"text") {
         return Some(Command::Text(rest(line, 5).bytes()));
     }
     None

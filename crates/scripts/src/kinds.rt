@@ -1,6 +1,7 @@
 //! The first line of a script: which kind of tree it builds.
 ghost use mathlib.Core.Path.{_≡_};
 ghost use Rattle.scripts.specs.Kinds.{kindOf};
+use crate::parts::spells;
 
 /// What a script builds.
 #[derive(Clone, Copy, PartialEq, Eq, Debug)]
@@ -13,10 +14,10 @@ pub enum Kind {
 pub fn read_kind(line: &[u8]) -> Option<Kind>
     ensures { λ r. ⌜ r ≡ kindOf (now (line .entry)) ⌝ }
 {
-    if line == b"plant" {
+    if spells(line, b"plant") {
         return Some(Kind::Plant);
     }
-    if line == b"grammar" {
+    if spells(line, b"grammar") {
         return Some(Kind::Grammar);
     }
     None

@@ -1,7 +1,15 @@
 //! Parts of some bytes.
 ghost use mathlib.Core.Path.{_≡_};
 ghost use lib.ListN.{drop};
+ghost use Rattle.std.specs.shelf.Text.{sameBytes};
 ghost use Rattle.scripts.specs.Parts.{upTo};
+
+/// Whether some bytes spell a word.
+pub(crate) fn spells(bytes: &[u8], word: &[u8]) -> bool
+    ensures { λ r. ⌜ r ≡ sameBytes (now (bytes .entry)) (now (word .entry)) ⌝ }
+{
+    bytes == word
+}
 
 /// The bytes before the first `stop`, or all of them where there is none.
 pub(crate) fn before(bytes: &[u8], stop: u8) -> &[u8]

@@ -5,9 +5,10 @@ ghost use Prim.Native.Nat.{_+_, _≤_};
 ghost use lib.ListN.{length};
 ghost use Rattle.std.specs.Of.Vec.{vec-items};
 ghost use Rattle.std.specs.Results.{Cases};
+ghost use Rattle.std.specs.Vec.{made};
 ghost use Rattle.std.specs.declared.result.Result.the-variants.{Ok, Err};
 ghost use Rattle.scripts.specs.Laws.{ScriptLaws};
-ghost use Rattle.scripts.specs.Outcomes.{left, lineAfter, lineRefusal, outcome, refused, script-limit, shownBefore, started};
+ghost use Rattle.scripts.specs.Outcomes.{left, lineAfter, lineRefusal, outcome, refused, script-limit, shownBefore, sized, started};
 ghost use Rattle.scripts.specs.Reading.{Fails, Means, Passes, Settles};
 use crate::commands::read_command;
 use crate::faults::ScriptError;
@@ -120,17 +121,35 @@ fn finish(text: Vec<u8>, size: usize, end: End<'_>) -> Result<Vec<u8>, ScriptRef
     Ok(text)
 }
 
+/// Whether a script is within the limit. A longer one is refused at the first byte over it.
+fn check_size(script: &[u8]) -> Result<(), ScriptRefusal>
+    ensures value { λ r. ⌜ r ≡ sized (now (script .entry)) ⌝ }
+    ensures small { λ r. ⌜ made r (λ _. length (now (script .entry)) ≤ script-limit) ⌝ }
+    ensures laws { λ _. ⌜ ScriptLaws (now (script .entry)) ⌝ }
+{
+    if script.len() > LIMIT {
+        return Err(refuse(line_after(&script[0..LIMIT]), LIMIT));
+    }
+    Ok(())
+}
+
+/// The text that a script within the limit makes.
+fn read_lines(heap: Global, script: &[u8]) -> Result<Vec<u8>, ScriptError>
+    requires { ⌜ length (now script) ≤ script-limit ⌝ }
+    ensures { λ r. ⌜ Cases r (λ text. Settles (started (now (script .entry))) (Ok (vec-items text))) (Fails (started (now (script .entry)))) ⌝ }
+{
+    let body = after_kind(script)?;
+    let mut text = Vec::new(heap);
+    let end = gather(&mut text, script.len(), body)?;
+    Ok(finish(text, script.len(), end)?)
+}
+
 /// The text that a script makes. Refused are a script over the limit, before all else; then the first line that is
 /// another than the rules have there or is missing, and at `show` bytes that are no text.
 pub fn read(heap: Global, script: &[u8]) -> Result<Vec<u8>, ScriptError>
     ensures meaning { λ r. ⌜ Cases r (λ text. Means (now (script .entry)) (Ok (vec-items text))) (Fails (outcome (now (script .entry)))) ⌝ }
     ensures laws { λ _. ⌜ ScriptLaws (now (script .entry)) ⌝ }
 {
-    if script.len() > LIMIT {
-        return Err(ScriptError::Refused(refuse(line_after(&script[0..LIMIT]), LIMIT)));
-    }
-    let body = after_kind(script)?;
-    let mut text = Vec::new(heap);
-    let end = gather(&mut text, script.len(), body)?;
-    Ok(finish(text, script.len(), end)?)
+    check_size(script)?;
+    read_lines(heap, script)
 }
