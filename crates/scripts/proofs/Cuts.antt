@@ -1,6 +1,6 @@
 -- Bytes cut at a byte, place by place.
-use mathlib.Core.Path.{_≡_, refl, sym, ap, _∙_}
-use mathlib.Core.Bool.{Bool, true, false, cond}
+use mathlib.Core.Path.{_≡_, refl, sym, _∙_}
+use mathlib.Core.Bool.{true, false, cond}
 use mathlib.Core.List.{List, [], _∷_, _++_, append-assoc, append-nil}
 use Prim.Native.Nat.{ℕ, _+_, _-_, _<_, _≤_}
 use native.Mathlib.Omega.{arith}
@@ -35,13 +35,9 @@ upTo-none stop bs i h =
     rw (e, append-nil, take-all i bs h)
 
 -- what stands behind the stop, by the length of what stands before it
-pub behind-drop : (stop : ℕ) (bs : List ℕ) → behind stop bs ≡ drop (length (upTo stop bs) + 1) bs
+behind-drop : (stop : ℕ) (bs : List ℕ) → behind stop bs ≡ drop (length (upTo stop bs) + 1) bs
 behind-drop stop [] = refl
 behind-drop stop (b ∷ bs) = elim (eqb b stop) as (λ t. cond t bs (behind stop bs) ≡ drop (length (cond t [] (b ∷ upTo stop bs)) + 1) (b ∷ bs)) [ true ↦ refl | false ↦ behind-drop stop bs ∙ simp add-one ]
-
-pub upTo-within : (stop : ℕ) (bs : List ℕ) → length (upTo stop bs) ≤ length bs
-upTo-within stop [] = omega arith
-upTo-within stop (b ∷ bs) = elim (eqb b stop) as (λ t. length (cond t [] (b ∷ upTo stop bs)) ≤ length (b ∷ bs)) [ true ↦ omega arith | false ↦ omega (arith, upTo-within stop bs) ]
 
 pub filled : (bs : List ℕ) → false ≡ eqb (length bs) 0 → length bs ≡ 0 → ⊥
 filled bs is = eqb-false (length bs) 0 (sym is)

@@ -1,6 +1,6 @@
 -- The laws of a script: its lines joined again, and a script that is written out read back.
 use mathlib.Core.Path.{_≡_, refl, sym, ap, _∙_}
-use mathlib.Core.Bool.{Bool, true, false, cond}
+use mathlib.Core.Bool.{false}
 use mathlib.Core.List.{List, [], _∷_, _++_, append-assoc, append-nil}
 use mathlib.Core.Logic.{inl, inr}
 use Prim.Native.Nat.{ℕ, _+_, _≤_}
@@ -10,19 +10,19 @@ use lib.Dec.{eqb}
 use lib.ListN.{length}
 use Rattle.std.specs.declared.option.Option.the-variants.{None}
 use Rattle.std.specs.declared.result.Result.{Result}
+use Rattle.std.specs.declared.result.Result.the-variants.{Err}
 use Rattle.std.specs.shelf.Lists.{All, joined}
 use Rattle.std.proofs.shelf.Tests.{cases-bool, eqb-true}
 use Rattle.text.specs.declared.faults.TextFault.{TextFault}
 use Rattle.text.specs.Verdicts.{Tested}
-use Rattle.scripts.specs.Parts.{upTo, behind}
-use Rattle.scripts.specs.Kinds.{kindName}
 use Rattle.scripts.specs.Lines.{lines, inFront}
-use Rattle.scripts.specs.Outcomes.{Outcome, shown, body, started, outcome, script-limit}
-use Rattle.scripts.specs.Reading.{judged, Means, Settles}
+use Rattle.scripts.specs.Outcomes.{shown, body, lineRefusal, started, outcome, script-limit}
+use Rattle.scripts.specs.Reading.{judged, Means}
 use Rattle.scripts.specs.Laws.{Unbroken, withLF, completed, Piece, bytes, newline, pieceLine, pieceText, written, ScriptLaws}
 use Rattle.scripts.specs.declared.kinds.Kind.{Kind}
 use Rattle.scripts.specs.declared.kinds.Kind.the-variants.{Plant, Grammar}
-use Rattle.scripts.proofs.Settled.{one-answer, within}
+use Rattle.scripts.proofs.Settled.{carried, one-answer, within}
+use Rattle.scripts.proofs.Placed.{placed}
 use Rattle.scripts.proofs.Turns.{lines-step}
 
 -- no line has an LF
@@ -96,4 +96,4 @@ round-trip script k ps is all small verdict tested =
 
 pub script-laws : (script : List ℕ) → ScriptLaws script
 script-laws script =
-    record { one-meaning = one-answer (outcome script); unbroken = unbroken script; rejoined = rejoined script; round-trip = round-trip script }
+    record { one-meaning = one-answer (outcome script); unbroken = unbroken script; rejoined = rejoined script; placed = λ small line place m. placed script (rejoined script) line place (carried (Err (lineRefusal line place)) (sym (within script small)) m); round-trip = round-trip script }

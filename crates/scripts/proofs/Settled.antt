@@ -1,23 +1,19 @@
 -- What an outcome comes to at the test of its text.
 use mathlib.Core.Path.{_≡_, refl, sym, ap, _∙_}
-use mathlib.Core.Bool.{true, false}
 use mathlib.Core.List.{List, [], _∷_}
 use Prim.Native.Nat.{ℕ, _+_, _-_, _<_, _≤_}
 use native.Mathlib.Omega.{arith}
 use lib.ListN.{length, take}
 use Rattle.std.specs.declared.option.Option.{Option}
-use Rattle.std.specs.declared.option.Option.the-variants.{Some, None}
+use Rattle.std.specs.declared.option.Option.the-variants.{Some}
 use Rattle.std.specs.declared.result.Result.{Result}
 use Rattle.std.specs.declared.result.Result.the-variants.{Ok, Err}
 use Rattle.std.proofs.shelf.Tests.{le-ltb, lt-ltb}
-use Rattle.text.specs.declared.faults.TextFault.{TextFault}
-use Rattle.text.specs.Verdicts.{Tested}
 use Rattle.text.proofs.Lawful.{one-verdict}
 use Rattle.scripts.specs.Lines.{lines}
 use Rattle.scripts.specs.Outcomes.{Outcome, refused, shown, shownBefore, afterShow, left, lineAfter, lineRefusal, outcome, script-limit, sized, started}
 use Rattle.scripts.specs.Reading.{Fails, Settles, Passes, judged, followed}
 use Rattle.scripts.specs.declared.faults.ScriptFault.{ScriptFault}
-use Rattle.scripts.specs.declared.faults.ScriptFault.the-variants.{Text}
 use Rattle.scripts.specs.declared.faults.ScriptError.{ScriptError}
 use Rattle.scripts.specs.declared.faults.ScriptError.the-variants.{Refused, NoMemory}
 use Rattle.scripts.specs.declared.faults.ScriptRefusal.{ScriptRefusal}

@@ -1,20 +1,19 @@
 -- One line of a script after another.
-use mathlib.Core.Path.{_≡_, refl, sym, ap, _∙_, subst}
-use mathlib.Core.Bool.{Bool, true, false, cond}
+use mathlib.Core.Path.{_≡_, refl, ap}
+use mathlib.Core.Bool.{true, false, cond}
 use mathlib.Core.List.{List, [], _∷_, _++_}
 use mathlib.Core.Logic.{_⊎_, inl, inr}
 use Prim.Native.Nat.{ℕ, _+_, _-_, _<_, _≤_}
 use native.Mathlib.Omega.{arith}
 use lib.Dec.{eqb}
 use lib.ListN.{length}
-use Rattle.std.specs.declared.option.Option.{Option}
 use Rattle.std.specs.declared.option.Option.the-variants.{Some, None}
 use Rattle.scripts.specs.Parts.{upTo, behind}
 use Rattle.scripts.specs.Lines.{lines, inFront, firstLine}
 use Rattle.scripts.specs.Commands.{Order, lineOrder, added}
 use Rattle.scripts.specs.Kinds.{kindOf}
 use Rattle.scripts.specs.declared.kinds.Kind.{Kind}
-use Rattle.scripts.specs.Outcomes.{Outcome, refused, shown, lineRefusal, afterShow, body, left, shownBefore, started}
+use Rattle.scripts.specs.Outcomes.{refused, shown, lineRefusal, afterShow, body, left, shownBefore, started}
 
 -- the first line and the lines after it
 pub lines-step : (b : ℕ) (bs : List ℕ) → lines (b ∷ bs) ≡ upTo 10 (b ∷ bs) ∷ lines (behind 10 (b ∷ bs))
@@ -32,7 +31,7 @@ parts-length stop (b ∷ bs) =
       | false ↦ elim (parts-length stop bs) [ inl e ↦ inl e | inr e ↦ inr (omega arith) ]
     ]
 
-pub behind-shorter : (b : ℕ) (bs : List ℕ) → length (behind 10 (b ∷ bs)) < length (b ∷ bs)
+behind-shorter : (b : ℕ) (bs : List ℕ) → length (behind 10 (b ∷ bs)) < length (b ∷ bs)
 behind-shorter b [] = elim (eqb b 10) as (λ t. length (cond {A = List ℕ} t [] []) < length (b ∷ [])) [ true ↦ omega arith | false ↦ omega arith ]
 behind-shorter b (d ∷ bs) = elim (eqb b 10) as (λ t. length (cond t (d ∷ bs) (behind 10 (d ∷ bs))) < length (b ∷ d ∷ bs)) [ true ↦ omega arith | false ↦ omega (arith, behind-shorter d bs) ]
 
@@ -69,10 +68,6 @@ shows size n text rest line after o h t is more =
 
 pub refuses : (size n : ℕ) (text rest line after : List ℕ) → Taken rest line after → None ≡ lineOrder line → left size n text rest ≡ refused (lineRefusal n (size - length rest))
 refuses size n text rest line after t is = rw (t .first, ← is)
-
-pub misses : (size n : ℕ) (text rest : List ℕ) → None ≡ firstLine rest → left size n text rest ≡ refused (lineRefusal n size)
-misses size n text [] e = refl
-misses size n text (b ∷ bs) e = let z : _≡_ {A = ℕ} 0 1 = cc in absurd (omega arith)
 
 pub kinds : (script line after : List ℕ) (k : Kind) → Taken script line after → Some k ≡ kindOf line → started script ≡ left (length script) 2 [] after
 kinds script line after k t is =

@@ -2,18 +2,19 @@
 use mathlib.Core.Path.{_≡_}
 use mathlib.Core.Bool.{cond, false}
 use mathlib.Core.List.{List, [], _∷_, _++_}
-use Prim.Native.Nat.{ℕ, _+_, _≤_}
+use Prim.Native.Nat.{ℕ, _+_, _-_, _≤_, min}
 use lib.Chars.{codes}
 use lib.Dec.{eqb}
-use lib.ListN.{length}
+use lib.ListN.{length, take}
 use Rattle.std.specs.declared.option.Option.the-variants.{None}
 use Rattle.std.specs.declared.result.Result.{Result}
+use Rattle.std.specs.declared.result.Result.the-variants.{Err}
 use Rattle.std.specs.shelf.Lists.{All, joined}
 use Rattle.text.specs.declared.faults.TextFault.{TextFault}
 use Rattle.text.specs.Verdicts.{Tested}
 use Rattle.scripts.specs.Kinds.{kindName}
 use Rattle.scripts.specs.Lines.{lines}
-use Rattle.scripts.specs.Outcomes.{script-limit}
+use Rattle.scripts.specs.Outcomes.{lineRefusal, script-limit}
 use Rattle.scripts.specs.Reading.{judged, Means}
 use Rattle.scripts.specs.declared.faults.ScriptRefusal.{ScriptRefusal}
 use Rattle.scripts.specs.declared.kinds.Kind.{Kind}
@@ -54,5 +55,7 @@ pub record ScriptLaws (script : List ℕ) : Type 0 where
   -- the lines have no LF, and with one each they are the script again
   pub unbroken : All Unbroken (lines script)
   pub rejoined : joined withLF (lines script) ≡ completed script
+  -- a line that is refused as another or missing begins after the lines before it, or where the script ends
+  pub placed : length script ≤ script-limit → (line place : ℕ) → Means script (Err (lineRefusal line place)) → (1 ≤ line) × (line ≤ length (lines script) + 1) × (place ≡ min (length (joined withLF (take (line - 1) (lines script)))) (length script))
   -- a script that is written out of lines means its pieces' bytes, as the test at its last line finds them
   pub round-trip : (k : Kind) (ps : List Piece) → script ≡ written k ps → All (λ p. Unbroken (pieceLine p)) ps → length script ≤ script-limit → (verdict : Result (Unit {0}) TextFault) → Tested (joined pieceText ps) verdict → Means script (judged (joined pieceText ps) (length ps + 2) None verdict)

@@ -80,8 +80,8 @@ lineAfter bytes = countBy (λ b. eqb b 10) bytes + 1
 abbrev pub sized : List ℕ → Result (Unit {0}) ScriptRefusal
 sized script =
     cond (ltb script-limit (length script))
-      (Err (lineRefusal (lineAfter (take script-limit script)) script-limit))
-      (Ok tt)
+    (Err (lineRefusal (lineAfter (take script-limit script)) script-limit))
+    (Ok tt)
 
 abbrev pub unless : Result (Unit {0}) ScriptRefusal → Outcome → Outcome
 unless (Ok _) o = o

@@ -2,7 +2,7 @@ use mathlib.Core.Path.{_∙_, sym, ap}
 use native.Mathlib.Omega.{arith}
 use Rattle.scripts.specs.Outcomes.{refused}
 use Rattle.scripts.proofs.reading.after_kind.Needs as need
-use Rattle.scripts.proofs.Turns.{Taken, taken, kinds, unkind}
+use Rattle.scripts.proofs.Turns.{taken, kinds, unkind}
 
 pub returns-in-Some-read-kind : need.returns-in-Some-read-kind
 returns-in-Some-read-kind c =

@@ -1,5 +1,4 @@
 use mathlib.Core.Path.{_∙_, ap}
-use lib.ListN.{length}
 use Rattle.std.specs.declared.result.Result.the-variants.{Err}
 use Rattle.scripts.specs.Outcomes.{lineRefusal, script-limit}
 use Rattle.scripts.proofs.Rewritten.{script-laws}

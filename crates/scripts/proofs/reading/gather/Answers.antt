@@ -7,7 +7,7 @@ use Rattle.scripts.specs.Commands.{orderOf}
 use Rattle.scripts.specs.Outcomes.{left}
 use Rattle.scripts.proofs.reading.gather.Needs as need
 use Rattle.scripts.proofs.Settled.{settled}
-use Rattle.scripts.proofs.Turns.{Taken, taken, adds, shows, refuses}
+use Rattle.scripts.proofs.Turns.{taken, adds, shows, refuses}
 
 pub returns-in-rest-read-command : need.returns-in-rest-read-command
 returns-in-rest-read-command c =
