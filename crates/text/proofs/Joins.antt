@@ -10,7 +10,7 @@ use Rattle.std.specs.shelf.Lists.{All, joined}
 use Rattle.std.proofs.shelf.Elements.{all-append}
 use Rattle.std.proofs.shelf.Lists.{length-append, length-take-le, take-append-drop, take-all, append-assoc, append-nil, append-cancel-left, take-at, drop-at}
 use Rattle.text.specs.Table.{Sequence}
-use Rattle.text.specs.Splits.{Splits, WellFormed, Longest, Front, FrontsNone, Passed}
+use Rattle.text.specs.Splits.{Splits, WellFormed, Longest, Front, FrontsNone, Skipped, Passed}
 use Rattle.text.proofs.Shapes.{led, parts, length-led}
 
 pub split-nil : WellFormed []
@@ -71,7 +71,7 @@ take-past [] t n = simp zero-add
 take-past (x ∷ s) t n = rw suc-add (ap (λ y. x ∷ y) (take-past s t n))
 
 pub longest-passed : (xs t : List ℕ) (n : ℕ) → Passed xs t → Longest t n → Longest xs (length xs - length t + n)
-longest-passed xs t n (s, (w, (some, e))) l =
+longest-passed xs t n ((s, (w, e)), less) l =
     let long : length xs ≡ length s + length t = ap length e ∙ length-append s t in
     let k : length s + n ≡ length xs - length t + n = omega arith in
     subst (λ ys. Longest ys (length xs - length t + n)) (sym e)
@@ -94,7 +94,13 @@ longest-stop xs f =
     }
 
 pub passed-front : (xs t : List ℕ) → Front xs t → Passed xs t
-passed-front xs t (s, (q, e)) = (s, (split-one q, (omega (arith, parts q t .some), e)))
+passed-front xs t (s, (q, e)) = ((s, (split-one q, e)), omega (arith, parts q t .some, ap length e, length-append s t))
 
-pub passed-less : (xs t : List ℕ) → Passed xs t → length t < length xs
-passed-less xs t (s, (w, (some, e))) = omega (arith, ap length e, length-append s t)
+pub skipped-none : (xs : List ℕ) → Skipped xs xs
+skipped-none xs = ([], (split-nil, refl))
+
+pub skipped-more : {xs ys zs : List ℕ} → Skipped xs ys → Skipped ys zs → Skipped xs zs
+skipped-more {xs} {ys} {zs} (s, (w, e)) (t, (v, f)) = (s ++ t, (split-append w v, e ∙ ap (λ r. s ++ r) f ∙ sym (append-assoc s t zs)))
+
+pub skipped-length : {xs ys : List ℕ} → Skipped xs ys → length ys ≤ length xs
+skipped-length {xs} {ys} (s, (w, e)) = omega (arith, ap length e, length-append s ys)

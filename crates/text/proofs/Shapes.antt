@@ -83,6 +83,9 @@ parts-front s t q e =
     let p = parts q t in
     subst (λ ys. Parts ys (led (getD ys 0 0))) (sym e) (subst (Parts (s ++ t)) (sym (p .leads)) p)
 
+pub none-empty : (xs : List ℕ) → length xs < 1 → FrontsNone xs
+none-empty xs h s t q e = let p = parts-front s t q e in omega (arith, p .some, p .long)
+
 pub length-led : {s : List ℕ} → Sequence s → (t : List ℕ) → length s ≡ led (getD (s ++ t) 0 0)
 length-led q t = sym (parts q t .leads)
 

@@ -28,6 +28,10 @@ Front text t = (s : List ℕ) × (Sequence s × (text ≡ s ++ t))
 abbrev pub FrontsNone : List ℕ → Type 0
 FrontsNone text = (s t : List ℕ) → Sequence s → text ≡ s ++ t → ⊥
 
--- the text is some whole sequences, at least one, and then t
+-- the text is some whole sequences, and then t
+abbrev pub Skipped : List ℕ → List ℕ → Type 0
+Skipped text t = (s : List ℕ) × (WellFormed s × (text ≡ s ++ t))
+
+-- and at least one of them
 abbrev pub Passed : List ℕ → List ℕ → Type 0
-Passed text t = (s : List ℕ) × (WellFormed s × ((0 < length s) × (text ≡ s ++ t)))
+Passed text t = Skipped text t × (length t < length text)

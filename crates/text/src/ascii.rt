@@ -1,27 +1,32 @@
-//! The quick way over ASCII, which most log lines are.
-ghost use mathlib.Core.Path.{_≡_};
-ghost use Rattle.std.specs.Options.{Cases as BySome};
-ghost use Rattle.text.specs.Splits.{Passed};
+//! The quick ways over ASCII, which most log lines are.
+ghost use Rattle.text.specs.Splits.{Skipped};
 use std::simd::prelude::*;
 
-// How many bytes are looked at together.
-const LANES: usize = 32;
-
-// What follows the first 32 bytes, where they are ASCII.
-pub(crate) fn after_ascii(text: &[u8]) -> Option<&[u8]>
-    ensures { λ r. ⌜ BySome r (Unit {0}) (λ t. Passed (now (text .entry)) (now t)) ⌝ }
+// What follows the first blocks of 64 bytes that are ASCII.
+pub(crate) fn after_blocks(text: &[u8]) -> &[u8]
+    ensures { λ r. ⌜ Skipped (now (text .entry)) (now r) ⌝ }
 {
-    if text.len() < LANES {
-        return None;
+    let mut rest = text;
+    while rest.len() >= 64 {
+        let lanes = u8x64::from_slice(&rest[0..64]);
+        if lanes.reduce_or() >= 0x80 {
+            break;
+        }
+        rest = &rest[64..];
     }
-    // a byte beyond ASCII mostly comes with others
-    if text[0] >= 0x80 {
-        return None;
+    rest
+}
+
+// What follows the ASCII bytes at the front.
+pub(crate) fn after_bytes(text: &[u8]) -> &[u8]
+    ensures { λ r. ⌜ Skipped (now (text .entry)) (now r) ⌝ }
+{
+    let mut rest = text;
+    while let [b, more @ ..] = rest {
+        if *b >= 0x80 {
+            break;
+        }
+        rest = more;
     }
-    let lanes = u8x32::from_slice(&text[0..32]);
-    if lanes.reduce_or() < 0x80 {
-        Some(&text[32..])
-    } else {
-        None
-    }
+    rest
 }

@@ -3,7 +3,8 @@ ghost use Rattle.std.specs.Options.{Cases as BySome};
 ghost use Rattle.text.specs.Laws.{TextLaws};
 ghost use Rattle.text.specs.Splits.{FrontsNone, Longest, Passed};
 ghost use Rattle.text.specs.Verdicts.{Tested};
-use crate::ascii::after_ascii;
+use crate::ascii::after_blocks;
+use crate::ascii::after_bytes;
 use crate::faults::TextFault;
 use crate::faults::TextFaultFromTooLong;
 use crate::limits::within_limit;
@@ -13,10 +14,13 @@ use crate::sequences::after_sequence;
 fn after_some(text: &[u8]) -> Option<&[u8]>
     ensures { λ r. ⌜ BySome r (FrontsNone (now (text .entry))) (λ t. Passed (now (text .entry)) (now t)) ⌝ }
 {
-    match after_ascii(text) {
-        Some(rest) => Some(rest),
-        None => after_sequence(text),
+    let [first, rest @ ..] = text else {
+        return None;
+    };
+    if *first >= 0x80 {
+        return after_sequence(text);
     }
+    Some(after_bytes(after_blocks(rest)))
 }
 
 // Where the longest split from the start of the text ends.

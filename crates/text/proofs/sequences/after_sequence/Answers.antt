@@ -8,16 +8,13 @@ use Rattle.std.proofs.shelf.Lists.{take-rest}
 use Rattle.std.proofs.shelf.Ways.{not-from-decides}
 use Rattle.text.specs.Sequences.{count}
 use Rattle.text.specs.Table.{Sequence}
-use Rattle.text.proofs.Shapes.{led, led-of, parts-front, headed, front1, front2, front3, front4}
+use Rattle.text.proofs.Shapes.{led, led-of, parts-front, headed, none-empty, front1, front2, front3, front4}
 use Rattle.text.proofs.sequences.after_sequence.Needs as need
 use Rattle.text.proofs.sequences.after_sequence.Needs.{in-rest-text-2·by·then-text-lt2, in-rest-text-2·by·in-len2-up·else-second-fits, in-rest-text-3·by·then-text-lt3, in-rest-text-3·by·in-len3-up·then-second-fits-2·else-tail-fits, in-rest-text-3·by·in-len3-up·else-second-fits-2, in-rest-text-4·by·then-text-lt4, in-rest-text-4·by·in-len4-up·then-second-fits-3·then-tail-fits-2·else-tail-fits-3, in-rest-text-4·by·in-len4-up·then-second-fits-3·else-tail-fits-2, in-rest-text-4·by·in-len4-up·else-second-fits-3}
 
 -- the text is empty
 pub returns-in-rest : need.returns-in-rest
-returns-in-rest c s t q e =
-    let p = parts-front s t q e in
-    let h : length (c .args .text .now) < 1 = search needs in
-    omega (arith, p .some, p .long)
+returns-in-rest c = none-empty (c .args .text .now) (search needs)
 
 -- no row begins with its first byte
 pub returns-in-rest-sequence-length : need.returns-in-rest-sequence-length
