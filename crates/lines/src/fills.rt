@@ -1,11 +1,12 @@
 //! Filling a line table from a text.
 ghost use denote.Ref.{name};
 ghost use mathlib.Core.Path.{_≡_};
-ghost use Prim.Native.Nat.{_≤_};
+ghost use Prim.Native.Nat.{_≤_, _<_};
 ghost use lib.ListN.{length};
 ghost use Rattle.std.specs.shelf.Lists.{countBy};
-ghost use Rattle.lines.specs.Starts.{lineFeed};
-ghost use Rattle.lines.specs.Fills.{Filled};
+ghost use Rattle.text.specs.Limits.{text-limit};
+ghost use Rattle.lines.specs.Fills.{Filled, Roomed, over, startsOf};
+ghost use Rattle.lines.specs.Starts.{lineFeed, starts};
 use crate::faults::LineFault;
 use crate::faults::LineFaultFromTooLong;
 use crate::indexes::LineIndex;
@@ -25,11 +26,9 @@ fn count_line_feeds(text: &[u8]) -> usize
 }
 
 impl<'b> LineIndex<'b> {
-    /// Notes the line starts of `text` in the table's buffer: 0, and the offset after each LF. Past them the buffer stays.
-    /// Refused, and all stays, where the text is over the limit or the buffer has fewer entries than there are starts.
-    pub fn fill(&mut self, text: &[u8]) -> Result<(), LineFault>
-        ensures filled { λ r. ⌜ Filled (now (text .entry)) (now (self .entry)) (now (self .exit)) r ⌝ }
-        ensures lender { λ _. ⌜ name (now (self .exit) .«line_offsets») ≡ name (now (self .entry) .«line_offsets») ⌝ }
+    // How many starts of the text come after the first; refused where the buffer has no room for them all.
+    fn later_starts(&self, text: &[u8]) -> Result<usize, LineFault>
+        ensures { λ r. ⌜ Roomed (now (text .entry)) (now (self .entry)) r ⌝ }
     {
         within_limit(text)?;
         let later = count_line_feeds(text);
@@ -38,6 +37,18 @@ impl<'b> LineIndex<'b> {
                 needed: later as u64 + 1,
             });
         }
+        Ok(later)
+    }
+
+    // Notes the starts of the text, of which `later` come after the first.
+    fn note(&mut self, text: &[u8], later: usize)
+        requires short { ⌜ length (now text) ≤ text-limit ⌝ }
+        requires count { ⌜ later ≡ countBy lineFeed (now text) ⌝ }
+        requires room { ⌜ later < length (now (now self .«line_offsets»)) ⌝ }
+        ensures starts { λ _. ⌜ startsOf (now (self .exit)) ≡ starts (now (text .entry)) ⌝ }
+        ensures buffer { λ _. ⌜ now (now (self .exit) .«line_offsets») ≡ over (now (text .entry)) (now (now (self .entry) .«line_offsets»)) ⌝ }
+        ensures lender { λ _. ⌜ name (now (self .exit) .«line_offsets») ≡ name (now (self .entry) .«line_offsets») ⌝ }
+    {
         // the table is 0 alone while its buffer changes
         self.more = 0;
         self.line_offsets[0] = 0;
@@ -49,6 +60,16 @@ impl<'b> LineIndex<'b> {
             }
         }
         self.more = later;
+    }
+
+    /// Notes the line starts of `text` in the table's buffer: 0, and the offset after each LF. Past them the buffer stays.
+    /// Refused, and all stays, where the text is over the limit or the buffer has fewer entries than there are starts.
+    pub fn fill(&mut self, text: &[u8]) -> Result<(), LineFault>
+        ensures filled { λ r. ⌜ Filled (now (text .entry)) (now (self .entry)) (now (self .exit)) r ⌝ }
+        ensures lender { λ _. ⌜ name (now (self .exit) .«line_offsets») ≡ name (now (self .entry) .«line_offsets») ⌝ }
+    {
+        let later = self.later_starts(text)?;
+        self.note(text, later);
         Ok(())
     }
 }

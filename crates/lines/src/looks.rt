@@ -1,9 +1,9 @@
 //! Lines and columns by a table.
 ghost use mathlib.Core.Path.{_≡_};
 ghost use Prim.Native.Nat.{_-_, _≤_, _<_};
-ghost use lib.ListN.{getD};
+ghost use lib.ListN.{getD, length};
 ghost use Rattle.lines.specs.Fills.{startsOf};
-ghost use Rattle.lines.specs.LineCols.{upto};
+ghost use Rattle.lines.specs.LineCols.{lineColBy, upto};
 ghost use Rattle.lines.specs.Looks.{lookedUp, readAt};
 ghost use Rattle.lines.specs.Starts.{starts};
 use crate::indexes::LineIndex;
@@ -45,6 +45,19 @@ impl<'b> LineIndex<'b> {
         }
     }
 
+    // The line and the column of an offset of `text`.
+    fn place_of(&self, text: &[u8], pos: u32) -> (usize, usize)
+        requires { ⌜ pos ≤ length (now text) ⌝ }
+        ensures { λ r. ⌜ r ≡ lineColBy (startsOf (now (self .entry))) (now (text .entry)) pos ⌝ }
+    {
+        let line = self.line_of(pos);
+        let from = self.start_of(line);
+        (
+            line,
+            1 + count_characters(&text[from as usize..pos as usize]),
+        )
+    }
+
     /// The line and the column of the offset `pos` of `text`, by the table's starts.
     /// Refused as the empty span at `pos` is. Of a table filled from `text`, the answer is what reading `text` gives.
     pub fn line_col(&self, text: &[u8], pos: u32) -> Result<(usize, usize), SpanFault>
@@ -52,11 +65,6 @@ impl<'b> LineIndex<'b> {
         ensures agrees { λ r. ⌜ (startsOf (now (self .entry)) ≡ starts (now (text .entry)) → r ≡ readAt (now (text .entry)) pos) ⌝ }
     {
         Span::new(text, pos, pos)?;
-        let line = self.line_of(pos);
-        let from = self.start_of(line);
-        Ok((
-            line,
-            1 + count_characters(&text[from as usize..pos as usize]),
-        ))
+        Ok(self.place_of(text, pos))
     }
 }

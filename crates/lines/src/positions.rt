@@ -2,7 +2,7 @@
 ghost use mathlib.Core.Path.{_≡_};
 ghost use Rattle.lines.specs.LineCols.{lineCol};
 ghost use Rattle.lines.specs.Opened.{PositionOpened};
-use crate::reads::read_line_col;
+use crate::reads::line_col_at;
 use spans::Span;
 use spans::faults::SpanFault;
 
@@ -33,7 +33,6 @@ impl<'i> Position<'i> {
     pub fn line_col(&self) -> (usize, usize)
         ensures { λ r. ⌜ r ≡ lineCol (now (now (self .entry) .input)) (now (self .entry) .pos) ⌝ }
     {
-        let end = self.input.len().min(self.pos as usize);
-        read_line_col(&self.input[0..end])
+        line_col_at(self.input, self.pos)
     }
 }

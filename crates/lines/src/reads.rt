@@ -5,7 +5,7 @@ ghost use Rattle.lines.specs.LineCols.{lineCol};
 use spans::characters::begins_character;
 
 // The line and the column at the end of `text`.
-pub(crate) fn read_line_col(text: &[u8]) -> (usize, usize)
+fn read_line_col(text: &[u8]) -> (usize, usize)
     ensures { λ r. ⌜ r ≡ lineCol (now (text .entry)) (length (now (text .entry))) ⌝ }
 {
     let mut line: usize = 1;
@@ -19,4 +19,12 @@ pub(crate) fn read_line_col(text: &[u8]) -> (usize, usize)
         }
     }
     (line, column)
+}
+
+// The line and the column of the offset `pos`, or of the text's end where it is past that.
+pub(crate) fn line_col_at(text: &[u8], pos: u32) -> (usize, usize)
+    ensures { λ r. ⌜ r ≡ lineCol (now (text .entry)) pos ⌝ }
+{
+    let end = text.len().min(pos as usize);
+    read_line_col(&text[0..end])
 }

@@ -58,12 +58,12 @@ counted text ss p = counted-joined ss (p .each) ∙ ap characters (p .whole)
 whole-longest : {text : List ℕ} {n : ℕ} → WellFormed text → Longest text n → length text ≤ n
 whole-longest {text} w l = l .last (length text) (omega arith) (subst WellFormed (sym (take-all (length text) text (omega arith))) w)
 
-pub one-verdict : (text : List ℕ) (r other : Result (Unit {0}) TextFault) → Tested text r → Tested text other → other ≡ r
+pub one-verdict : (text : List ℕ) (r s : Result (Unit {0}) TextFault) → Tested text r → Tested text s → r ≡ s
 one-verdict text (Ok x) (Ok y) p q = refl
 one-verdict text (Ok x) (Err (Long f)) p q = absurd (omega arith)
 one-verdict text (Ok x) (Err (Malformed at)) p q = absurd (omega (arith, whole-longest (p .1) (q .1 .0)))
 one-verdict text (Err (Long f)) (Ok y) p q = absurd (omega arith)
-one-verdict text (Err (Long f)) (Err (Long g)) p q = ap (λ n. Err (Long (record { length = n }))) (q .1 ∙ sym (p .1))
+one-verdict text (Err (Long f)) (Err (Long g)) p q = ap (λ n. Err (Long (record { length = n }))) (p .1 ∙ sym (q .1))
 one-verdict text (Err (Long f)) (Err (Malformed at)) p q = absurd (omega arith)
 one-verdict text (Err (Malformed at)) (Ok y) p q = absurd (omega (arith, whole-longest (q .1) (p .1 .0)))
 one-verdict text (Err (Malformed at)) (Err (Long f)) p q = absurd (omega arith)
@@ -72,9 +72,8 @@ one-verdict text (Err (Malformed at)) (Err (Malformed to)) p q =
     let l = q .1 .0 in
     let m : at ≤ to = l .last at (k .within) (k .split) in
     let n : to ≤ at = k .last to (l .within) (l .split) in
-    let e : to ≡ at = omega arith in
+    let e : at ≡ to = omega arith in
     ap (λ i. Err (Malformed i)) e
 
-pub text-laws : (text : List ℕ) (r : Result (Unit {0}) TextFault) → Tested text r → TextLaws text r
-text-laws text r p =
-    record { one-verdict = λ other q. one-verdict text r other p q; one-split = one-split text; counted = counted text; unicode = (to-utf8 text, from-utf8 text) }
+pub text-laws : (text : List ℕ) → TextLaws text
+text-laws text = record { one-verdict = one-verdict text; one-split = one-split text; counted = counted text; unicode = (to-utf8 text, from-utf8 text) }

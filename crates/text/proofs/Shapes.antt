@@ -94,12 +94,28 @@ pub headed : (s t : List ℕ) → Sequence s → (r : List ℕ) × Sequence (get
 headed [] t q = absurd (omega (arith, parts q t .some))
 headed (x ∷ s) t q = (s, q)
 
-pub length-of : (a n : ℕ) → led a ≡ n → (s : List ℕ) → Shape (a ∷ s) → LengthOf a n
-length-of a n e s q = record { every = λ t p. length-led p [] ∙ e; some = (s, row q) }
-
 -- a second byte for each first one
-pub second-some : (a : ℕ) → (b : ℕ) × Second a b
+second-some : (a : ℕ) → (b : ℕ) × Second a b
 second-some a = (cond (leb a 0xE0) 0xBF (cond (leb a 0xED) 0x80 (cond (leb a 0xF0) 0xBF 0x80)), grind (arith, tells))
+
+-- a sequence for each first byte that has one
+some-led : (a n : ℕ) → led a ≡ n → 1 ≤ n → n ≤ 4 → (s : List ℕ) × Sequence (a ∷ s)
+some-led a n e some most =
+    let b = second-some a in
+    let tail : In 0x80 0xBF 0x80 = (omega arith, omega arith) in
+    elim (leb-tells n 1) [
+      | inl h ↦ ([], row (one (omega arith)))
+      | inr h ↦ elim (leb-tells n 2) [
+        | inl i ↦ (b .0 ∷ [], row (two (omega arith) (b .1)))
+        | inr i ↦ elim (leb-tells n 3) [
+          | inl j ↦ (b .0 ∷ 0x80 ∷ [], row (three (omega arith) (b .1) tail))
+          | inr j ↦ (b .0 ∷ 0x80 ∷ 0x80 ∷ [], row (four (omega arith) (b .1) tail tail))
+        ]
+      ]
+    ]
+
+pub length-of : (a n : ℕ) → led a ≡ n → 1 ≤ n → n ≤ 4 → LengthOf a n
+length-of a n e some most = record { every = λ t p. length-led p [] ∙ e; some = some-led a n e some most }
 
 pub led-of : {a n : ℕ} → LengthOf a n → led a ≡ n
 led-of l = sym (length-led (l .some .1) []) ∙ l .every (l .some .0) (l .some .1)

@@ -10,9 +10,9 @@ use Rattle.text.specs.Characters.{characters}
 use Rattle.text.specs.Splits.{Splits, WellFormed}
 use Rattle.text.specs.Verdicts.{Tested}
 
-pub record TextLaws (text : List ℕ) (r : Result (Unit {0}) TextFault) : Type 0 where
-  -- no other verdict would do
-  pub one-verdict : (other : Result (Unit {0}) TextFault) → Tested text other → other ≡ r
+pub record TextLaws (text : List ℕ) : Type 0 where
+  -- only one verdict will do
+  pub one-verdict : (r s : Result (Unit {0}) TextFault) → Tested text r → Tested text s → r ≡ s
   -- a text splits in one way
   pub one-split : (ss ts : List (List ℕ)) → Splits ss text → Splits ts text → ss ≡ ts
   -- into as many sequences as it has characters

@@ -38,7 +38,7 @@ fn longest_split(text: &[u8]) -> usize
 /// If not, the refusal has the length, or the offset where the first sequence begins that is none of the table's.
 pub fn well_formed(text: &[u8]) -> Result<(), TextFault>
     ensures verdict { λ r. ⌜ Tested (now (text .entry)) r ⌝ }
-    ensures laws { λ r. ⌜ TextLaws (now (text .entry)) r ⌝ }
+    ensures laws { λ _. ⌜ TextLaws (now (text .entry)) ⌝ }
 {
     within_limit(text)?;
     let end = longest_split(text);

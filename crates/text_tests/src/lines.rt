@@ -97,11 +97,17 @@ fn offsets_past_the_text_or_in_a_character_are_refused(rt: LibcRuntime) -> Resul
     check_eq(refused(&[0xF0, 0x9F, 0x92, 0x96], 4), ((0, 0), (0, 0)))?;
     let mut text = Vec::new(rt.alloc());
     text.resize(1_048_577, b'x')?;
-    check_eq(refused(text.as_slice(), 0), ((1, 1_048_577), (1, 1_048_577)))?;
+    check_eq(
+        refused(text.as_slice(), 0),
+        ((1, 1_048_577), (1, 1_048_577)),
+    )?;
     let mut buffer = [0u32; 1];
     let mut table = LineIndex::new(&mut buffer);
     let Err(fault) = table.fill(text.as_slice()) else {
         return Err(Fail::new("filled from a text over the limit"));
     };
-    check_eq((fault.refusal().number, fault.refusal().place), (1, 1_048_577))
+    check_eq(
+        (fault.refusal().number, fault.refusal().place),
+        (1, 1_048_577),
+    )
 }

@@ -85,7 +85,10 @@ fn the_first_bad_sequence_is_the_place(rt: LibcRuntime) -> Result<(), Fail> {
         text.resize(150, b'-')?;
         text.extend_from_slice("é你".as_bytes())?;
         text.extend_from_slice(bad)?;
-        check_eq(well_formed(text.as_slice()), Err(TextFault::Malformed { at: 155 }))?;
+        check_eq(
+            well_formed(text.as_slice()),
+            Err(TextFault::Malformed { at: 155 }),
+        )?;
     }
     Ok(())
 }
@@ -96,10 +99,16 @@ fn the_limit_is_a_mebibyte(rt: LibcRuntime) -> Result<(), Fail> {
     text.resize(1_048_576, b'x')?;
     check_eq(well_formed(text.as_slice()), Ok(()))?;
     text.push(b'x')?;
-    check_eq(well_formed(text.as_slice()), Err(TextFault::Long(TooLong { length: 1_048_577 })))?;
+    check_eq(
+        well_formed(text.as_slice()),
+        Err(TextFault::Long(TooLong { length: 1_048_577 })),
+    )?;
     // too long comes before not well-formed
     text.push(0xFF)?;
-    check_eq(well_formed(text.as_slice()), Err(TextFault::Long(TooLong { length: 1_048_578 })))
+    check_eq(
+        well_formed(text.as_slice()),
+        Err(TextFault::Long(TooLong { length: 1_048_578 })),
+    )
 }
 
 #[test]

@@ -1,7 +1,7 @@
 use mathlib.Core.Path.{_≡_}
 use denote.Ref.{now, name}
 use Rattle.lines.proofs.Noting.{Noted}
-use Rattle.lines.proofs.indexes.LineIndex.fill.Given as given
+use Rattle.lines.proofs.indexes.LineIndex.note.Given as given
 
 -- the starts of the bytes passed are noted, in the same buffer, and the table is 0 alone as yet
 abbrev pub Inv-loop-i : given.InvT-loop-i
