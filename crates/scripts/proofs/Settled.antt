@@ -60,4 +60,4 @@ ends size line text (b ∷ bs) p none = absurd (omega arith)
 
 pub one-answer : (o : Outcome) (a b : Result (List ℕ) ScriptRefusal) → Settles o a → Settles o b → a ≡ b
 one-answer (refused f) a b p q = p ∙ sym q
-one-answer (shown text line next) a b p q = p .1 .1 ∙ ap (judged text line next) (one-verdict text (q .0) (p .0) (q .1 .0) (p .1 .0)) ∙ sym (q .1 .1)
+one-answer (shown text line next) a b p q = p .1 .1 ∙ ap (judged text line next) (one-verdict text (p .0) (q .0) (p .1 .0) (q .1 .0)) ∙ sym (q .1 .1)
