@@ -1,0 +1,4 @@
+pub mod Forests
+pub mod Lawful
+pub mod Lists
+pub mod Records

@@ -1,0 +1,4 @@
+//! Nodes with their depths, the forest that they list, and the queue of tokens that it writes.
+pub mod nodes;
+pub mod records;
+pub mod tokens;
