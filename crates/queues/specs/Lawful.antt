@@ -21,3 +21,13 @@ unlawfulFrom most i (d ∷ ds) = cond (leb d most && leb d 255) (unlawfulFrom (d
 
 abbrev pub unlawful : List ℕ → Option ℕ
 unlawful depths = unlawfulFrom 0 0 depths
+
+-- the greatest depth that may come next, after a node of this depth or after none
+abbrev pub mostAfter : Option ℕ → ℕ
+mostAfter None = 0
+mostAfter (Some d) = d + 1
+
+-- the first unlawful index once a depth comes at the index `at`
+abbrev pub faultAfter : Option ℕ → (most at depth : ℕ) → Option ℕ
+faultAfter (Some i) most at depth = Some i
+faultAfter None most at depth = cond (leb depth most && leb depth 255) None (Some at)

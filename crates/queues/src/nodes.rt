@@ -13,7 +13,7 @@ use crate::records::Node;
 use crate::tokens::Tag;
 
 /// A list of nodes that a builder adds to. All that code may know of one is the list that it means.
-pub trait Nodes<R> {
+pub trait Nodes<R: Copy> {
     ghost list: { Self → List (Node R) };
 
     // no node can be added
@@ -28,9 +28,9 @@ pub trait Nodes<R> {
         ensures { λ r. ⌜ r ≡ nth (list (now (self .entry))) i ⌝ };
 
     /// Adds a node at the end. False, and nothing has changed, where the list is full.
-    fn push(&mut self, node: Node<R>) -> bool
+    fn push(&mut self, last: &Node<R>) -> bool
         ensures room { λ r. ⌜ r ≡ not (full (now (self .entry))) ⌝ }
-        ensures after { λ r. ⌜ list (now (self .exit)) ≡ cond r (list (now (self .entry)) ++ node ∷ []) (list (now (self .entry))) ⌝ };
+        ensures after { λ r. ⌜ list (now (self .exit)) ≡ cond r (list (now (self .entry)) ++ now (last .entry) ∷ []) (list (now (self .entry))) ⌝ };
 
     /// Sets or replaces the tag of the node at an index. Nothing changes from the length on.
     fn set_tag(&mut self, i: usize, tag: Tag)
