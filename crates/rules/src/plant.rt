@@ -1,8 +1,8 @@
-//! The rules of the plant's records.
+//! The plant's rules: twelve, by name.
 ghost use Rattle.rules.specs.Codes.{plantCode};
 use crate::rule_types::RuleType;
 
-/// What a pair in a plant's record is.
+/// One of the plant's rules.
 #[derive(Clone, Copy, PartialEq, Eq, Debug)]
 pub enum PlantRule {
     Line,
