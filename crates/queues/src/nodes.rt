@@ -27,6 +27,10 @@ pub trait Nodes<R: Copy> {
     fn node(&self, i: usize) -> Option<Node<R>>
         ensures { λ r. ⌜ r ≡ nth (list (now (self .entry))) i ⌝ };
 
+    /// Whether no node can be added.
+    fn is_full(&self) -> bool
+        ensures { λ r. ⌜ r ≡ full (now (self .entry)) ⌝ };
+
     /// Adds a node at the end. False, and nothing has changed, where the list is full.
     fn push(&mut self, last: &Node<R>) -> bool
         ensures room { λ r. ⌜ r ≡ not (full (now (self .entry))) ⌝ }

@@ -57,6 +57,10 @@ pub impl<'n, R: Copy> Nodes<R> for SliceNodes<'n, R> as SliceNodesList {
         self.nodes.get(i).copied()
     }
 
+    fn is_full(&self) -> bool {
+        self.nodes.len() <= self.len
+    }
+
     fn push(&mut self, last: &Node<R>) -> bool {
         let at = self.len;
         if at >= self.nodes.len() {
