@@ -2,3 +2,4 @@ pub mod Forests
 pub mod Lawful
 pub mod Lists
 pub mod Records
+pub mod Writes

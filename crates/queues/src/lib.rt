@@ -2,3 +2,4 @@
 pub mod nodes;
 pub mod records;
 pub mod tokens;
+pub mod writes;
