@@ -1,3 +1,6 @@
 pub mod Counts
+pub mod Depths
 pub mod Putting
+pub mod Trees
+pub mod Whole
 pub mod Writing

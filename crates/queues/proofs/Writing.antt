@@ -19,6 +19,7 @@ use Rattle.queues.specs.declared.tokens.Token.the-variants.{Start, End}
 use Rattle.queues.specs.Forests.{Forest, none, pair, Row, ends, pairs, tokens, listed, written}
 use Rattle.queues.specs.Records.{Carried, rowOf, rows, queue, tokenOf}
 use Rattle.queues.specs.Writes.{ofDepth, put, Above, Ahead, Ready, Wrote}
+use Rattle.queues.proofs.Trees.{above-more}
 use Rattle.queues.proofs.Counts.{length-listed, length-queue}
 use Rattle.queues.proofs.Putting.{put-none, put-pair}
 
@@ -34,7 +35,7 @@ of-depth-some : {R : Type 0} (n : Node R) (d : ℕ) → n .depth ≡ d → ofDep
 of-depth-some n d e =
     elim (eqb-tells (n .depth) d) [ inl t ↦ ap (λ b. cond b (Some n) None) (t .0) | inr t ↦ absurd (t .1 e) ]
 
-nth-drop : {X : Type 0} (xs : List X) (i : ℕ) (x : X) → nth xs i ≡ Some x → (drop i xs ≡ x ∷ drop (suc i) xs) × (i < length xs)
+pub nth-drop : {X : Type 0} (xs : List X) (i : ℕ) (x : X) → nth xs i ≡ Some x → (drop i xs ≡ x ∷ drop (suc i) xs) × (i < length xs)
 nth-drop [] i x e = let z : _≡_ {A = ℕ} 0 1 = cc in absurd (omega arith)
 nth-drop (y ∷ xs) zero x e = let k : y ≡ x = cc in (ap (λ z. z ∷ xs) k, omega arith)
 nth-drop (y ∷ xs) (suc i) x e = let r = nth-drop xs i x e in (r .0, omega (arith, r .1))
@@ -45,11 +46,6 @@ map-drop-first f [] zero y ys e = let z : _≡_ {A = ℕ} 0 1 = cc in absurd (om
 map-drop-first f [] (suc i) y ys e = let z : _≡_ {A = ℕ} 0 1 = cc in absurd (omega arith)
 map-drop-first f (x ∷ xs) zero y ys e = (x, (refl, ap (λ l. getD l 0 y) e))
 map-drop-first f (x ∷ xs) (suc i) y ys e = map-drop-first f xs i y ys e
-
-above-more : {X : Type 0} (d : ℕ) (f : Forest X) (rest : List (Row X)) → Above d rest → Above (d + 1) (listed d f ++ rest)
-above-more d none [] h = tt
-above-more d none (r ∷ rest) h = omega arith
-above-more d (pair start end x inner after) rest h = omega arith
 
 -- a node of depth d ahead of the forest g is its first pair
 pub record Opened {R : Type 0} (nodes : List (Node R)) (node d : ℕ) (n : Node R) (g : Forest (Carried R)) (rest : List (Row (Carried R))) : Type 0 where

@@ -47,3 +47,13 @@ pub record Wrote {R : Type 0} (f : Forest (Carried R)) (node token node′ token
   pub next-node : node′ ≡ node + pairs f
   pub next-token : token′ ≡ token + tokens f
   pub result : out′ ≡ put token (queue (written token f)) out
+
+-- the nodes list this forest
+abbrev pub Lists : {R : Type 0} → List (Node R) → Forest (Carried R) → Type 0
+Lists nodes f = listed 0 f ≡ rows nodes
+
+-- they list one forest and no other
+pub record One {R : Type 0} (nodes : List (Node R)) : Type 0 where
+  pub forest : Forest (Carried R)
+  pub lists : Lists nodes forest
+  pub only : (f : Forest (Carried R)) → Lists nodes f → f ≡ forest

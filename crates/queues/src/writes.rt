@@ -6,10 +6,10 @@ ghost use Prim.Native.Nat.{_*_, _≤_};
 ghost use lib.ListN.{length, drop};
 ghost use Rattle.std.specs.declared.option.Option.the-variants.{None};
 ghost use Rattle.std.specs.shelf.Maps.{nth};
-ghost use Rattle.queues.specs.Forests.{Forest, Row, listed, written, tokens};
+ghost use Rattle.queues.specs.Forests.{Forest, Row, written, tokens};
 ghost use Rattle.queues.specs.Lawful.{unlawful};
-ghost use Rattle.queues.specs.Records.{Carried, depths, rows, queue};
-ghost use Rattle.queues.specs.Writes.{ofDepth, Ahead, Ready, Wrote};
+ghost use Rattle.queues.specs.Records.{Carried, depths, queue};
+ghost use Rattle.queues.specs.Writes.{ofDepth, Ahead, Ready, Wrote, Lists, One};
 use crate::nodes::Nodes;
 use crate::records::Node;
 use crate::tokens::Token;
@@ -74,4 +74,15 @@ fn write_siblings<R: Copy, N: Nodes<R>>(
         };
     }
     at
+}
+
+/// Writes the queue of the forest that the nodes list. What lies behind it stays.
+pub fn write_queue<R: Copy, N: Nodes<R>>(nodes: &N, out: &mut [Token<R>])
+    requires lawful { ⌜ unlawful (depths (N·Nodes .list (now nodes))) ≡ None ⌝ }
+    requires few { ⌜ length (N·Nodes .list (now nodes)) ≤ 65536 ⌝ }
+    requires room { ⌜ 2 * length (N·Nodes .list (now nodes)) ≤ length (now out) ⌝ }
+    ensures one { λ _. ⌜ One (N·Nodes .list (now (nodes .entry))) ⌝ }
+    ensures writes { λ _. ⌜ ((f : Forest (Carried R)) → Lists (N·Nodes .list (now (nodes .entry))) f → now (out .exit) ≡ queue (written 0 f) ++ drop (tokens f) (now (out .entry))) ⌝ }
+{
+    write_siblings(nodes, 0, Cursor { node: 0, token: 0 }, out);
 }
