@@ -1,5 +1,6 @@
 pub mod Counts
 pub mod Depths
+pub mod Linking
 pub mod Putting
 pub mod Trees
 pub mod Whole

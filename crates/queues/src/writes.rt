@@ -8,6 +8,7 @@ ghost use Rattle.std.specs.declared.option.Option.the-variants.{None};
 ghost use Rattle.std.specs.shelf.Maps.{nth};
 ghost use Rattle.queues.specs.Forests.{Forest, Row, written, tokens};
 ghost use Rattle.queues.specs.Lawful.{unlawful};
+ghost use Rattle.queues.specs.Links.{Links};
 ghost use Rattle.queues.specs.Records.{Carried, depths, queue};
 ghost use Rattle.queues.specs.Writes.{ofDepth, Ahead, Ready, Wrote, Lists, One};
 use crate::nodes::Nodes;
@@ -82,6 +83,7 @@ pub fn write_queue<R: Copy, N: Nodes<R>>(nodes: &N, out: &mut [Token<R>])
     requires few { ⌜ length (N·Nodes .list (now nodes)) ≤ 65536 ⌝ }
     requires room { ⌜ 2 * length (N·Nodes .list (now nodes)) ≤ length (now out) ⌝ }
     ensures one { λ _. ⌜ One (N·Nodes .list (now (nodes .entry))) ⌝ }
+    ensures linked { λ _. ⌜ Links (Carried R) ⌝ }
     ensures writes { λ _. ⌜ ((f : Forest (Carried R)) → Lists (N·Nodes .list (now (nodes .entry))) f → now (out .exit) ≡ queue (written 0 f) ++ drop (tokens f) (now (out .entry))) ⌝ }
 {
     write_siblings(nodes, 0, Cursor { node: 0, token: 0 }, out);
