@@ -1,12 +1,11 @@
 -- How long a listing and a queue are.
-use mathlib.Core.Path.{_≡_, refl, sym, ap, _∙_}
-use mathlib.Core.List.{List, [], _∷_, _++_}
-use Prim.Native.Nat.{ℕ, _+_, _*_, _≤_, _<_}
+use mathlib.Core.Path.{_≡_, refl, _∙_}
+use mathlib.Core.List.{_∷_}
+use Prim.Native.Nat.{ℕ, _+_, _*_}
 use native.Mathlib.Omega.{arith}
 use lib.ListN.{length}
 use Rattle.std.proofs.shelf.Lists.{length-append, length-map}
-use Rattle.queues.specs.declared.tokens.Token.{Token}
-use Rattle.queues.specs.Forests.{Forest, none, pair, Row, ends, pairs, tokens, listed, written}
+use Rattle.queues.specs.Forests.{Forest, none, pair, ends, pairs, tokens, listed, written}
 use Rattle.queues.specs.Records.{Carried, queue, tokenOf}
 
 pub length-listed : {X : Type 0} (d : ℕ) (f : Forest X) → length (listed d f) ≡ pairs f

@@ -2,14 +2,14 @@
 use mathlib.Core.Path.{_≡_, refl, sym, ap, subst, _∙_}
 use mathlib.Core.Logic.{inl, inr}
 use mathlib.Core.List.{List, [], _∷_, _++_}
-use Prim.Native.Nat.{ℕ, zero, suc, _+_, _-_, _≤_, _<_}
+use Prim.Native.Nat.{ℕ, zero, suc, _+_, _-_, _<_}
 use native.Mathlib.Omega.{arith}
 use lib.ListN.{length}
-use Rattle.std.specs.declared.option.Option.the-variants.{Some, None}
+use Rattle.std.specs.declared.option.Option.the-variants.{Some}
 use Rattle.std.specs.shelf.Maps.{nth}
 use Rattle.std.proofs.shelf.Ways.{leb-tells}
 use Rattle.queues.specs.Forests.{Forest, none, pair, Mark, starts, ends, tokens, written}
-use Rattle.queues.specs.Links.{Linked, Links}
+use Rattle.queues.specs.Links.{Links}
 use Rattle.queues.proofs.Counts.{length-written}
 use Rattle.queues.proofs.Writing.{nth-drop}
 

@@ -1,10 +1,10 @@
 -- Putting a list in place of as many elements of another.
 use mathlib.Core.Path.{_≡_, refl, sym, ap, subst, _∙_}
 use mathlib.Core.List.{List, [], _∷_, _++_}
-use Prim.Native.Nat.{ℕ, suc, _+_, _≤_, _<_}
+use Prim.Native.Nat.{ℕ, suc, _+_, _<_}
 use native.Mathlib.Omega.{arith}
 use lib.ListN.{length, take, drop, set, getD}
-use Rattle.std.proofs.shelf.Lists.{append-assoc, length-append, length-drop, length-push, length-take-le, take-append-drop, take-at, drop-at, drop-drop, set-at, take-more, drop-more}
+use Rattle.std.proofs.shelf.Lists.{append-assoc, length-append, length-drop, length-push, length-take-le, take-append-drop, take-at, drop-at, drop-drop, set-at, drop-more}
 use Rattle.queues.specs.Writes.{put}
 
 -- behind a first part

@@ -1,6 +1,6 @@
 use borrow.Author.Needs.{needs, scaled-fits}
 use native.Mathlib.Omega.{arith}
-use Prim.Native.Nat.{_+_, _<_, _≤_}
+use Prim.Native.Nat.{_<_}
 use lib.ListN.{length}
 use Rattle.queues.proofs.Writing.{step, opened, going-on, all-written}
 use Rattle.queues.proofs.writes.+write_siblings.Needs as need
