@@ -4,3 +4,4 @@ mod pushes;
 pub mod records;
 pub mod slices;
 pub mod tokens;
+pub mod writes;
