@@ -18,6 +18,7 @@ use Rattle.queues.specs.declared.tokens.Tag as queue-tag
 use Rattle.queues.specs.Lawful.{unlawful}
 use Rattle.queues.specs.Records.{depths}
 use Rattle.builders.specs.declared.builds.BuildFault.{BuildFault}
+use Rattle.builders.specs.declared.builds.NodeFault.{NodeFault}
 use Rattle.builders.specs.declared.builds.BuildFault.the-variants.{Text, Labels, Many, Tag, Open, Unlawful, Span, Short}
 
 -- the first of two faults
@@ -39,13 +40,17 @@ tagFault labels [] = None
 tagFault labels (n ∷ ns) = cond (tagFits labels (n .tag)) (tagFault labels ns) (Some (Tag (tagPlace (n .tag))))
 
 -- the fault of a node's span, else those of the others
-abbrev pub spanAt : ℕ → Result (Unit {0}) UnsoundSpan → Option BuildFault → Option BuildFault
-spanAt node (Ok _) others = others
-spanAt node (Err f) others = Some (Span (record { node = node; fault = f }))
+abbrev pub atNode : ℕ → Result (Unit {0}) UnsoundSpan → Option NodeFault → Option NodeFault
+atNode node (Ok _) others = others
+atNode node (Err f) others = Some (record { node = node; fault = f })
 
-abbrev pub spanFaultFrom : {R : Type 0} → List ℕ → ℕ → List (Node R) → Option BuildFault
-spanFaultFrom text i [] = None
-spanFaultFrom text i (n ∷ ns) = spanAt i (spanned text (n .start) (n .end)) (spanFaultFrom text (i + 1) ns)
+abbrev pub nodeFaultFrom : {R : Type 0} → List ℕ → ℕ → List (Node R) → Option NodeFault
+nodeFaultFrom text i [] = None
+nodeFaultFrom text i (n ∷ ns) = atNode i (spanned text (n .start) (n .end)) (nodeFaultFrom text (i + 1) ns)
+
+abbrev pub spanFault : Option NodeFault → Option BuildFault
+spanFault None = None
+spanFault (Some f) = Some (Span f)
 
 abbrev pub unlawfulAt : Option ℕ → Option BuildFault
 unlawfulAt None = None
@@ -59,7 +64,7 @@ restFault depth nodes text labels room =
     (first (tagFault (length labels) nodes)
     (first (cond (ltb 0 depth) (Some (Open depth)) None)
     (first (unlawfulAt (unlawful (depths nodes)))
-    (first (spanFaultFrom text 0 nodes)
+    (first (spanFault (nodeFaultFrom text 0 nodes))
     (cond (ltb room (2 * length nodes)) (Some (Short (2 * length nodes))) None))))))
 
 -- the fault, else the number of tokens
@@ -75,3 +80,25 @@ judged (Ok _) depth nodes text labels room = counted (restFault depth nodes text
 -- the answer of a build
 abbrev pub Judged : {R : Type 0} → (depth : ℕ) → List (Node R) → (text labels : List ℕ) → (room : ℕ) → Result ℕ BuildFault → Type 0
 Judged depth nodes text labels room r = (verdict : Result (Unit {0}) TextFault) × (Tested text verdict × (r ≡ judged verdict depth nodes text labels room))
+
+-- a fault, or done
+abbrev pub unless : {E : Type 0} → Option E → Result (Unit {0}) E
+unless None = Ok tt
+unless (Some f) = Err f
+
+-- what the checks before writing answer
+abbrev pub checked : {R : Type 0} → Result (Unit {0}) TextFault → (depth : ℕ) → List (Node R) → (text labels : List ℕ) → (room : ℕ) → Result (Unit {0}) BuildFault
+checked (Err f) depth nodes text labels room = Err (Text f)
+checked (Ok _) depth nodes text labels room = unless (restFault depth nodes text labels room)
+
+abbrev pub Checked : {R : Type 0} → (depth : ℕ) → List (Node R) → (text labels : List ℕ) → (room : ℕ) → Result (Unit {0}) BuildFault → Type 0
+Checked depth nodes text labels room r = (verdict : Result (Unit {0}) TextFault) × (Tested text verdict × (r ≡ checked verdict depth nodes text labels room))
+
+-- of a node, if there is one
+abbrev pub tagOf : {R : Type 0} → Option (Node R) → Option queue-tag.Tag
+tagOf None = None
+tagOf (Some n) = n .tag
+
+abbrev pub nodeSpan : {R : Type 0} → List ℕ → ℕ → Option (Node R) → Option NodeFault
+nodeSpan text i None = None
+nodeSpan text i (Some n) = atNode i (spanned text (n .start) (n .end)) None

@@ -2,6 +2,7 @@
 mod adds;
 pub mod builder;
 pub mod builds;
+mod checks;
 mod closes;
 pub mod faults;
 mod tags;
