@@ -1,3 +1,5 @@
 pub mod Builds
 pub mod Calls
 pub mod Faults
+pub mod Laws
+pub mod Queues

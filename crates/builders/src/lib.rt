@@ -5,6 +5,7 @@ pub mod builds;
 mod checks;
 mod closes;
 pub mod faults;
+mod queues;
 mod tags;
 
 pub use builder::PairsBuilder;

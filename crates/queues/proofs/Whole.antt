@@ -19,7 +19,7 @@ use Rattle.queues.proofs.Depths.{unlawful-none}
 use Rattle.queues.proofs.Trees.{listed-same, forest-listed}
 use Rattle.queues.proofs.Writing.{nth-drop}
 
-depths-rows : {R : Type 0} (nodes : List (Node R)) → depths nodes ≡ map (λ r. r .depth) (rows nodes)
+pub depths-rows : {R : Type 0} (nodes : List (Node R)) → depths nodes ≡ map (λ r. r .depth) (rows nodes)
 depths-rows [] = refl
 depths-rows (n ∷ nodes) = ap (λ l. n .depth ∷ l) (depths-rows nodes)
 
