@@ -40,8 +40,10 @@ impl PairsBuilder {
     pub fn check_rule<R: Copy, N: Nodes<R>>(&self, nodes: &N) -> Result<(), BuilderFault>
         ensures { λ r. ⌜ r ≡ unless (appendFault (N·Nodes .full (now (nodes .entry))) (N·Nodes .list (now (nodes .entry)))) ⌝ }
     {
-        check_room(nodes)?;
-        check_lawful(nodes)
+        match check_room(nodes) {
+            Ok(()) => check_lawful(nodes),
+            Err(fault) => Err(fault),
+        }
     }
 
     /// What `open` would refuse of this list, whatever the pair.

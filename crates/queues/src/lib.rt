@@ -1,6 +1,6 @@
 //! Nodes with their depths, the forest that they list, and the queue of tokens that it writes.
 pub mod nodes;
-mod pushes;
+pub mod pushes;
 pub mod records;
 pub mod slices;
 pub mod tokens;

@@ -73,8 +73,7 @@ pub impl<'n, R: Copy> Nodes<R> for SliceNodes<'n, R> as SliceNodesList {
         };
         let fault = first_fault(self.fault, before, at, last.depth);
         self.nodes[at] = *last;
-        self.len = at + 1;
-        self.fault = fault;
+        (self.len, self.fault) = (at + 1, fault);
         true
     }
 
