@@ -1,28 +1,34 @@
 -- From what the checks say to what the build answers, and the laws of builds.
 use mathlib.Core.Path.{_≡_, refl, sym, ap, subst, _∙_}
+use mathlib.Core.Logic.{inl, inr}
+use mathlib.Core.Bool.{true, false, not, cond, _&&_}
 use mathlib.Core.List.{List, [], _∷_, map}
 use Prim.Native.Nat.{ℕ, _*_, _≤_, _<_}
 use native.Mathlib.Omega.{arith}
+use lib.Dec.{leb, ltb}
 use lib.ListN.{length, getD}
 use Rattle.std.specs.declared.option.Option.{Option}
 use Rattle.std.specs.declared.option.Option.the-variants.{Some, None}
 use Rattle.std.specs.declared.result.Result.{Result}
 use Rattle.std.specs.declared.result.Result.the-variants.{Ok, Err}
+use Rattle.std.specs.Options.{isSome}
 use Rattle.std.proofs.shelf.Lists.{length-map}
+use Rattle.std.proofs.shelf.Ways.{tells, leb-tells}
 use Rattle.text.specs.declared.faults.TextFault.{TextFault}
 use Rattle.text.proofs.Lawful.{one-verdict}
 use Rattle.queues.specs.declared.records.Node.{Node}
 use Rattle.queues.specs.Forests.{Forest, Row, listed, pairs, tokens}
-use Rattle.queues.specs.Lawful.{Lawful}
+use Rattle.queues.specs.Lawful.{Lawful, unlawful}
 use Rattle.queues.specs.Records.{Carried, depths, rowOf, rows}
-use Rattle.queues.specs.Writes.{Lists}
+use Rattle.queues.specs.Writes.{Lists, writable}
 use Rattle.queues.proofs.Counts.{length-listed, two-each}
 use Rattle.queues.proofs.Depths.{listed-lawful}
 use Rattle.queues.proofs.Linking.{linked}
 use Rattle.queues.proofs.Trees.{lawful-forest}
 use Rattle.queues.proofs.Whole.{depths-rows}
 use Rattle.builders.specs.declared.builds.BuildFault.{BuildFault}
-use Rattle.builders.specs.Builds.{Checked, Judged, checked, counted, judged, restFault, unless}
+use Rattle.builders.specs.declared.builds.BuildFault.the-variants.{Many, Open, Short}
+use Rattle.builders.specs.Builds.{Checked, Judged, checked, counted, first, judged, nodeFaultFrom, restFault, spanFault, tagFault, unlawfulAt, unless}
 use Rattle.builders.specs.Laws.{BuildLaws}
 
 -- a fault is the answer
@@ -33,6 +39,14 @@ err-counted (Some g) n f e = cc
 ok-none : (o : Option BuildFault) (x : Unit {0}) → Ok x ≡ unless o → o ≡ None
 ok-none None x e = refl
 ok-none (Some g) x e = cc
+
+first-none : (a b : Option BuildFault) → first a b ≡ None → (a ≡ None) × (b ≡ None)
+first-none None b e = (refl, e)
+first-none (Some g) b e = (e, cc)
+
+writable-from : (o : Option ℕ) (n room : ℕ) → unlawfulAt o ≡ None → cond (ltb 65536 n) (Some (Many n)) None ≡ None → cond (ltb room (2 * n)) (Some (Short (2 * n))) None ≡ None → (not (isSome o) && (leb n 65536 && leb (2 * n) room)) ≡ true
+writable-from None n room u m s = grind (arith, tells)
+writable-from (Some i) n room u m s = cc
 
 module _ {R : Type 0} (depth : ℕ) (nodes : List (Node R)) (text labels : List ℕ) (room : ℕ) where
   err-judged : (v : Result (Unit {0}) TextFault) (f : BuildFault) → Err f ≡ checked v depth nodes text labels room → Err f ≡ judged v depth nodes text labels room
@@ -46,8 +60,23 @@ module _ {R : Type 0} (depth : ℕ) (nodes : List (Node R)) (text labels : List 
   ok-judged (Err t) x e = cc
   ok-judged (Ok y) x e = ap (λ o. counted o (2 * length nodes)) (sym (ok-none (restFault depth nodes text labels room) x e))
 
+  ok-writable : (v : Result (Unit {0}) TextFault) (x : Unit {0}) → Ok x ≡ checked v depth nodes text labels room → writable nodes room ≡ true
+  ok-writable (Err t) x e = cc
+  ok-writable (Ok y) x e =
+      let a = first-none _ _ (ok-none (restFault depth nodes text labels room) x e) in
+      let b = first-none _ _ (a .1) in
+      let c = first-none (tagFault (length labels) nodes) _ (b .1) in
+      let d = first-none (cond (ltb 0 depth) (Some (Open depth)) None) _ (c .1) in
+      let f = first-none _ _ (d .1) in
+      let h = first-none (spanFault (nodeFaultFrom text 0 nodes)) _ (f .1) in
+      writable-from (unlawful (depths nodes)) (length nodes) room (f .0) (b .0) (h .1)
+
   pub passed-judged : (x : Unit {0}) → Checked depth nodes text labels room (Ok x) → Judged depth nodes text labels room (Ok (2 * length nodes))
   passed-judged x (v, (t, e)) = (v, (t, ok-judged v x e))
+
+  -- a list that passes can be written
+  pub passed-writable : (x : Unit {0}) → Checked depth nodes text labels room (Ok x) → writable nodes room ≡ true
+  passed-writable x (v, (t, e)) = ok-writable v x e
 
   one-answer : (a b : Result ℕ BuildFault) → Judged depth nodes text labels room a → Judged depth nodes text labels room b → a ≡ b
   one-answer a b (v, (t, e)) (w, (u, d)) = e ∙ ap (λ z. judged z depth nodes text labels room) (one-verdict text v w t u) ∙ sym d

@@ -25,7 +25,7 @@ fn write_checked<R: Copy, N: Nodes<R>>(
     ensures laws { λ _. ⌜ BuildLaws R ⌝ }
 {
     check_build(depth, nodes, text, labels, buffer.len())?;
-    write_queue(nodes, buffer);
+    let _ = write_queue(nodes, buffer);
     Ok(2 * nodes.len())
 }
 

@@ -1,9 +1,9 @@
 -- What writing a queue from a list of nodes does.
 use mathlib.Core.Path.{_≡_}
-use mathlib.Core.Bool.{cond}
+use mathlib.Core.Bool.{Bool, cond, not, _&&_}
 use mathlib.Core.List.{List, [], _∷_, _++_}
-use Prim.Native.Nat.{ℕ, _+_, _≤_, _<_}
-use lib.Dec.{eqb}
+use Prim.Native.Nat.{ℕ, _+_, _*_, _≤_, _<_}
+use lib.Dec.{eqb, leb}
 use lib.ListN.{length, take, drop}
 use Rattle.std.specs.declared.option.Option.{Option}
 use Rattle.std.specs.declared.option.Option.the-variants.{Some, None}
@@ -11,7 +11,9 @@ use Rattle.std.specs.shelf.Maps.{nth}
 use Rattle.queues.specs.declared.records.Node.{Node}
 use Rattle.queues.specs.declared.tokens.Token.{Token}
 use Rattle.queues.specs.Forests.{Forest, Row, pairs, tokens, listed, written}
-use Rattle.queues.specs.Records.{Carried, rows, queue}
+use Rattle.std.specs.Options.{isSome}
+use Rattle.queues.specs.Lawful.{unlawful}
+use Rattle.queues.specs.Records.{Carried, depths, rows, queue}
 
 -- a node, if it has this depth
 abbrev pub ofDepth : {R : Type 0} → Option (Node R) → ℕ → Option (Node R)
@@ -57,3 +59,11 @@ pub record One {R : Type 0} (nodes : List (Node R)) : Type 0 where
   pub forest : Forest (Carried R)
   pub lists : Lists nodes forest
   pub only : (f : Forest (Carried R)) → Lists nodes f → f ≡ forest
+
+-- the queue of each forest that the nodes list, of which there is one, stands at the front, and past it all stays
+abbrev pub Writes : {R : Type 0} → List (Node R) → (out out′ : List (Token R)) → Type 0
+Writes {R} nodes out out′ = (f : Forest (Carried R)) → Lists nodes f → out′ ≡ queue (written 0 f) ++ drop (tokens f) out
+
+-- lawful nodes, not too many, with room for their tokens
+abbrev pub writable : {R : Type 0} → List (Node R) → ℕ → Bool
+writable nodes room = not (isSome (unlawful (depths nodes))) && (leb (length nodes) 65536 && leb (2 * length nodes) room)

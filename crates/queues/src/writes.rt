@@ -4,13 +4,14 @@ ghost use mathlib.Core.List.{List, _++_};
 ghost use mathlib.Core.Path.{_≡_};
 ghost use Prim.Native.Nat.{_*_, _≤_};
 ghost use lib.ListN.{length, drop};
+ghost use Rattle.std.specs.Orderings.{When};
 ghost use Rattle.std.specs.declared.option.Option.the-variants.{None};
 ghost use Rattle.std.specs.shelf.Maps.{nth};
 ghost use Rattle.queues.specs.Forests.{Forest, Row, written, tokens};
 ghost use Rattle.queues.specs.Lawful.{unlawful};
 ghost use Rattle.queues.specs.Links.{Links};
 ghost use Rattle.queues.specs.Records.{Carried, depths, queue};
-ghost use Rattle.queues.specs.Writes.{ofDepth, Ahead, Ready, Wrote, Lists, One};
+ghost use Rattle.queues.specs.Writes.{ofDepth, writable, Ahead, Ready, Writes, Wrote, One};
 use crate::nodes::Nodes;
 use crate::records::Node;
 use crate::tokens::Token;
@@ -77,14 +78,28 @@ fn write_siblings<R: Copy, N: Nodes<R>>(
     at
 }
 
-/// Writes the queue of the forest that the nodes list. What lies behind it stays.
-pub fn write_queue<R: Copy, N: Nodes<R>>(nodes: &N, out: &mut [Token<R>])
+// Writes the queue of the forest that lawful nodes list.
+fn write_lawful<R: Copy, N: Nodes<R>>(nodes: &N, out: &mut [Token<R>])
     requires lawful { ⌜ unlawful (depths (N·Nodes .list (now nodes))) ≡ None ⌝ }
     requires few { ⌜ length (N·Nodes .list (now nodes)) ≤ 65536 ⌝ }
     requires room { ⌜ 2 * length (N·Nodes .list (now nodes)) ≤ length (now out) ⌝ }
     ensures one { λ _. ⌜ One (N·Nodes .list (now (nodes .entry))) ⌝ }
     ensures linked { λ _. ⌜ Links (Carried R) ⌝ }
-    ensures writes { λ _. ⌜ ((f : Forest (Carried R)) → Lists (N·Nodes .list (now (nodes .entry))) f → now (out .exit) ≡ queue (written 0 f) ++ drop (tokens f) (now (out .entry))) ⌝ }
+    ensures writes { λ _. ⌜ Writes (N·Nodes .list (now (nodes .entry))) (now (out .entry)) (now (out .exit)) ⌝ }
 {
     write_siblings(nodes, 0, Cursor { node: 0, token: 0 }, out);
+}
+
+/// Writes the queue of the forest that the nodes list. What lies behind it stays.
+/// False, and nothing is written, where the nodes are not lawful, are over 65,536, or need more tokens than there is room for.
+pub fn write_queue<R: Copy, N: Nodes<R>>(nodes: &N, out: &mut [Token<R>]) -> bool
+    ensures test { λ r. ⌜ r ≡ writable (N·Nodes .list (now (nodes .entry))) (length (now (out .entry))) ⌝ }
+    ensures queue { λ r. ⌜ When r (One (N·Nodes .list (now (nodes .entry))) × Writes (N·Nodes .list (now (nodes .entry))) (now (out .entry)) (now (out .exit))) (now (out .exit) ≡ now (out .entry)) ⌝ }
+{
+    let count = nodes.len();
+    if nodes.first_unlawful().is_some() || count > 65536 || out.len() < 2 * count {
+        return false;
+    }
+    write_lawful(nodes, out);
+    true
 }
