@@ -10,19 +10,17 @@ use lib.Dec.{eqb}
 use lib.ListN.{length}
 use Rattle.std.specs.declared.option.Option.the-variants.{None}
 use Rattle.std.specs.declared.result.Result.{Result}
-use Rattle.std.specs.declared.result.Result.the-variants.{Err}
 use Rattle.std.specs.shelf.Lists.{All, joined}
 use Rattle.std.proofs.shelf.Tests.{cases-bool, eqb-true}
-use Rattle.text.specs.declared.faults.TextFault.{TextFault}
-use Rattle.text.specs.Verdicts.{Tested}
+use Rattle.builders.specs.declared.builds.BuildFault.{BuildFault}
 use Rattle.scripts.specs.Lines.{lines, inFront}
-use Rattle.scripts.specs.Outcomes.{shown, body, lineRefusal, started, outcome, script-limit}
-use Rattle.scripts.specs.Reading.{judged, Means}
-use Rattle.scripts.specs.Laws.{Unbroken, withLF, completed, Piece, bytes, newline, pieceLine, pieceText, written, ScriptLaws}
+use Rattle.scripts.specs.Outcomes.{shown, body, started, outcome, script-limit}
+use Rattle.scripts.specs.Steps.{drawn}
+use Rattle.scripts.specs.Reading.{Built, Means, judged}
+use Rattle.scripts.specs.Laws.{Unbroken, withLF, completed, Piece, bytes, newline, pieceLine, pieceText, textOf, written, ScriptLaws}
 use Rattle.scripts.specs.declared.kinds.Kind.{Kind}
 use Rattle.scripts.specs.declared.kinds.Kind.the-variants.{Plant, Grammar}
-use Rattle.scripts.proofs.Settled.{carried, one-answer, within}
-use Rattle.scripts.proofs.Placed.{placed}
+use Rattle.scripts.proofs.Settled.{one-answer, within}
 use Rattle.scripts.proofs.Turns.{lines-step}
 
 -- no line has an LF
@@ -59,9 +57,9 @@ in-line [] rest h = refl
 in-line (b ∷ bs) rest h = let e = h .0 in rw e (ap (inFront b) (in-line bs rest (h .1)))
 
 -- the line of a piece is read as that piece
-piece-read : (size place n : ℕ) (text : List ℕ) (p : Piece) (ls : List (List ℕ)) → body size place n text (pieceLine p ∷ ls) ≡ body size (place + length (pieceLine p) + 1) (n + 1) (text ++ pieceText p) ls
-piece-read size place n text (bytes bs) ls = refl
-piece-read size place n text newline ls = refl
+piece-read : (codes size place n : ℕ) (text : List ℕ) (p : Piece) (ls : List (List ℕ)) → body codes size place n (drawn text [] [] 0 None) (pieceLine p ∷ ls) ≡ body codes size (place + length (pieceLine p) + 1) (n + 1) (drawn (text ++ pieceText p) [] [] 0 None) ls
+piece-read codes size place n text (bytes bs) ls = refl
+piece-read codes size place n text newline ls = refl
 
 abbrev pieceLines : List Piece → List ℕ
 pieceLines ps = joined (λ p. withLF (pieceLine p)) ps
@@ -70,30 +68,30 @@ abbrev end : List ℕ
 end = withLF (codes "show")
 
 -- the lines of the pieces, and `show`
-said : (size place n : ℕ) (text : List ℕ) (ps : List Piece) → All (λ p. Unbroken (pieceLine p)) ps → body size place n text (lines (pieceLines ps ++ end)) ≡ shown (text ++ joined pieceText ps) (length ps + n) None
-said size place n text [] h =
+said : (many size place n : ℕ) (text : List ℕ) (ps : List Piece) → All (λ p. Unbroken (pieceLine p)) ps → body many size place n (drawn text [] [] 0 None) (lines (pieceLines ps ++ end)) ≡ shown (drawn (text ++ joined pieceText ps) [] [] 0 None) (length ps + n) None
+said many size place n text [] h =
     let a = append-nil text in
     let z : 0 + n ≡ n = omega arith in
     rw (a, z)
-said size place n text (p ∷ ps) h =
+said many size place n text (p ∷ ps) h =
     let e : lines (pieceLines (p ∷ ps) ++ end) ≡ pieceLine p ∷ lines (pieceLines ps ++ end) = ap lines (append-assoc (withLF (pieceLine p)) (pieceLines ps) end) ∙ in-line (pieceLine p) (pieceLines ps ++ end) (h .0) in
-    let next = said size (place + length (pieceLine p) + 1) (n + 1) (text ++ pieceText p) ps (h .1) in
+    let next = said many size (place + length (pieceLine p) + 1) (n + 1) (text ++ pieceText p) ps (h .1) in
     let count : length ps + (n + 1) ≡ length (p ∷ ps) + n = omega arith in
-    ap (body size place n text) e
-    ∙ piece-read size place n text p (lines (pieceLines ps ++ end))
+    ap (body many size place n (drawn text [] [] 0 None)) e
+    ∙ piece-read many size place n text p (lines (pieceLines ps ++ end))
     ∙ next
-    ∙ ap (λ t. shown t (length ps + (n + 1)) None) (append-assoc text (pieceText p) (joined pieceText ps))
-    ∙ ap (λ m. shown (text ++ joined pieceText (p ∷ ps)) m None) count
+    ∙ ap (λ t. shown (drawn t [] [] 0 None) (length ps + (n + 1)) None) (append-assoc text (pieceText p) (joined pieceText ps))
+    ∙ ap (λ m. shown (drawn (text ++ joined pieceText (p ∷ ps)) [] [] 0 None) m None) count
 
-kind-read : (k : Kind) (ps : List Piece) → All (λ p. Unbroken (pieceLine p)) ps → started (written k ps) ≡ shown (joined pieceText ps) (length ps + 2) None
-kind-read Plant ps h = said (length (written Plant ps)) 6 2 [] ps h
-kind-read Grammar ps h = said (length (written Grammar ps)) 8 2 [] ps h
+kind-read : (k : Kind) (ps : List Piece) → All (λ p. Unbroken (pieceLine p)) ps → started (written k ps) ≡ shown (textOf ps) (length ps + 2) None
+kind-read Plant ps h = said 12 (length (written Plant ps)) 6 2 [] ps h
+kind-read Grammar ps h = said 65536 (length (written Grammar ps)) 8 2 [] ps h
 
-round-trip : (script : List ℕ) (k : Kind) (ps : List Piece) → script ≡ written k ps → All (λ p. Unbroken (pieceLine p)) ps → length script ≤ script-limit → (verdict : Result (Unit {0}) TextFault) → Tested (joined pieceText ps) verdict → Means script (judged (joined pieceText ps) (length ps + 2) None verdict)
-round-trip script k ps is all small verdict tested =
-    let o : outcome script ≡ shown (joined pieceText ps) (length ps + 2) None = within script small ∙ ap started is ∙ kind-read k ps all in
-    rw o (verdict, (tested, refl))
+round-trip : (script : List ℕ) (k : Kind) (ps : List Piece) → script ≡ written k ps → All (λ p. Unbroken (pieceLine p)) ps → length script ≤ script-limit → (built : Result ℕ BuildFault) → Built (textOf ps) built → Means script (judged (textOf ps) (length ps + 2) None built)
+round-trip script k ps is all small built tested =
+    let o : outcome script ≡ shown (textOf ps) (length ps + 2) None = within script small ∙ ap started is ∙ kind-read k ps all in
+    rw o (built, (tested, refl))
 
 pub script-laws : (script : List ℕ) → ScriptLaws script
 script-laws script =
-    record { one-meaning = one-answer (outcome script); unbroken = unbroken script; rejoined = rejoined script; placed = λ small line place m. placed script (rejoined script) line place (carried (Err (lineRefusal line place)) (sym (within script small)) m); round-trip = round-trip script }
+    record { one-meaning = one-answer (outcome script); unbroken = unbroken script; rejoined = rejoined script; round-trip = round-trip script }

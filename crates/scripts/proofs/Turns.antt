@@ -10,10 +10,14 @@ use lib.ListN.{length}
 use Rattle.std.specs.declared.option.Option.the-variants.{Some, None}
 use Rattle.scripts.specs.Parts.{upTo, behind}
 use Rattle.scripts.specs.Lines.{lines, inFront, firstLine}
-use Rattle.scripts.specs.Commands.{Order, lineOrder, added}
-use Rattle.scripts.specs.Kinds.{kindOf}
+use Rattle.std.specs.declared.result.Result.the-variants.{Ok, Err}
+use Rattle.scripts.specs.Commands.{Order, ending, lineOrder}
+use Rattle.scripts.specs.Kinds.{kindCodes, kindOf}
+use Rattle.scripts.specs.Steps.{Drawn, stepped}
+use Rattle.scripts.specs.declared.faults.ScriptFault.{ScriptFault}
+use Rattle.scripts.proofs.Digits.{upTo-length}
 use Rattle.scripts.specs.declared.kinds.Kind.{Kind}
-use Rattle.scripts.specs.Outcomes.{refused, shown, lineRefusal, afterShow, body, left, shownBefore, started}
+use Rattle.scripts.specs.Outcomes.{refused, shown, lineRefusal, afterShow, blank, body, left, shownBefore, started}
 
 -- the first line and the lines after it
 pub lines-step : (b : ℕ) (bs : List ℕ) → lines (b ∷ bs) ≡ upTo 10 (b ∷ bs) ∷ lines (behind 10 (b ∷ bs))
@@ -57,23 +61,34 @@ moved F same size rest line after h t =
       | inr e ↦ let p : size - length rest + length line + 1 ≡ size - length after = omega arith in ap (λ n. F n (lines after)) p
     ]
 
--- the text so far with what a line appends
-pub adds : (size n : ℕ) (text rest line after part : List ℕ) (o : Order) → length rest ≤ size → Taken rest line after → Some o ≡ lineOrder line → Some part ≡ added o → left size n text rest ≡ left size (n + 1) (text ++ part) after
-adds size n text rest line after part o h t is more =
-    rw (t .first, ← is, ← more) (moved (λ p ls. body size p (n + 1) (text ++ part) ls) (λ p q. refl) size rest line after h t)
+-- a line that is done, that ends the script, that is not done, or that is none
+pub adds : (codes size n : ℕ) (d d′ : Drawn) (rest line after : List ℕ) (o : Order) → length rest ≤ size → Taken rest line after → Ok o ≡ lineOrder line → false ≡ ending o → stepped codes o d ≡ Ok d′ → left codes size n d rest ≡ left codes size (n + 1) d′ after
+adds codes size n d d′ rest line after o h t is goes step =
+    rw (t .first, ← is, ← goes, step) (moved (λ p ls. body codes size p (n + 1) d′ ls) (λ p q. refl) size rest line after h t)
 
-pub shows : (size n : ℕ) (text rest line after : List ℕ) (o : Order) → length rest ≤ size → Taken rest line after → Some o ≡ lineOrder line → None ≡ added o → left size n text rest ≡ shownBefore size n text after
-shows size n text rest line after o h t is more =
-    rw (t .first, ← is, ← more) (ap (shown text n) (moved (afterShow (n + 1)) (λ p q. refl) size rest line after h t))
+pub shows : (codes size n : ℕ) (d : Drawn) (rest line after : List ℕ) (o : Order) → length rest ≤ size → Taken rest line after → Ok o ≡ lineOrder line → true ≡ ending o → left codes size n d rest ≡ shownBefore size n d after
+shows codes size n d rest line after o h t is ends =
+    rw (t .first, ← is, ← ends) (ap (shown d n) (moved (afterShow (n + 1)) (λ p q. refl) size rest line after h t))
 
-pub refuses : (size n : ℕ) (text rest line after : List ℕ) → Taken rest line after → None ≡ lineOrder line → left size n text rest ≡ refused (lineRefusal n (size - length rest))
-refuses size n text rest line after t is = rw (t .first, ← is)
+pub stops : (codes size n : ℕ) (d : Drawn) (rest line after : List ℕ) (o : Order) (f : ScriptFault) → Taken rest line after → Ok o ≡ lineOrder line → false ≡ ending o → stepped codes o d ≡ Err f → left codes size n d rest ≡ refused (record { line = n; fault = f })
+stops codes size n d rest line after o f t is goes step = rw (t .first, ← is, ← goes, step)
 
-pub kinds : (script line after : List ℕ) (k : Kind) → Taken script line after → Some k ≡ kindOf line → started script ≡ left (length script) 2 [] after
+pub refuses : (codes size n p : ℕ) (d : Drawn) (rest line after : List ℕ) → Taken rest line after → Err p ≡ lineOrder line → left codes size n d rest ≡ refused (lineRefusal n (size - length rest + p))
+refuses codes size n p d rest line after t is = rw (t .first, ← is)
+
+pub kinds : (script line after : List ℕ) (k : Kind) → Taken script line after → Some k ≡ kindOf line → started script ≡ left (kindCodes k) (length script) 2 blank after
 kinds script line after k t is =
-    let m = moved (λ p ls. body (length script) p 2 [] ls) (λ p q. refl) (length script) script line after (omega arith) t in
+    let m = moved (λ p ls. body (kindCodes k) (length script) p 2 blank ls) (λ p q. refl) (length script) script line after (omega arith) t in
     let z : length script - length script + length line + 1 ≡ length line + 1 = omega arith in
     rw (t .first, ← is) (rw z at m)
 
 pub unkind : (script line after : List ℕ) → Taken script line after → None ≡ kindOf line → started script ≡ refused (lineRefusal 1 0)
 unkind script line after t is = rw (t .first, ← is)
+
+-- a line is no longer than what it begins
+pub line-within : (rest line after : List ℕ) → Some (line, after) ≡ firstLine rest → length line ≤ length rest
+line-within [] line after e = let z : _≡_ {A = ℕ} 0 1 = cc in absurd (omega arith)
+line-within (b ∷ bs) line after e =
+    let p : (line, after) ≡ (upTo 10 (b ∷ bs), behind 10 (b ∷ bs)) = cc in
+    let l : line ≡ upTo 10 (b ∷ bs) = ap (λ (q : List ℕ × List ℕ). q .0) p in
+    rw l (upTo-length 10 (b ∷ bs))

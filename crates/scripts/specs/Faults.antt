@@ -4,15 +4,19 @@ use Prim.Native.Nat.{ℕ}
 use lib.Chars.{codes}
 use Rattle.std.specs.Written.{decimal}
 use Rattle.text.specs.declared.refusals.Refusal.{Refusal}
-use Rattle.text.specs.Faults.{textRefusal}
+use Rattle.builders.specs.Faults.{builderRefusal, buildRefusal}
 use Rattle.scripts.specs.declared.faults.ScriptFault.{ScriptFault}
-use Rattle.scripts.specs.declared.faults.ScriptFault.the-variants.{Other, Text}
+use Rattle.scripts.specs.declared.faults.ScriptFault.the-variants.{Other, NoRule, Builder, Build}
 use Rattle.scripts.specs.declared.faults.ScriptRefusal.{ScriptRefusal}
 
--- 18, another or a missing line, or the size: at the offset in the script; else as the text is refused
 abbrev pub refusalOf : ScriptFault → Refusal
+-- 18, another or a missing line, a wrong number, or the size: at the offset in the script
 refusalOf (Other place) = record { number = 18; place = place }
-refusalOf (Text fault) = textRefusal fault
+-- 17, code without a rule: at the code
+refusalOf (NoRule code) = record { number = 17; place = code }
+-- else as the builder refuses
+refusalOf (Builder fault) = builderRefusal fault
+refusalOf (Build fault) = buildRefusal fault
 
 -- `refused NUMBER PLACE LINE`
 abbrev pub refusalLine : ScriptRefusal → List ℕ

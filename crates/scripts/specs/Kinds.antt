@@ -17,3 +17,8 @@ abbrev pub kindOf : List ℕ → Option Kind
 kindOf line =
     cond (sameBytes line (kindName Plant)) (Some Plant)
     (cond (sameBytes line (kindName Grammar)) (Some Grammar) None)
+
+-- how many codes the kind's rules have
+abbrev pub kindCodes : Kind → ℕ
+kindCodes Plant = 12
+kindCodes Grammar = 65536

@@ -2,20 +2,19 @@
 use mathlib.Core.Path.{_≡_}
 use mathlib.Core.Bool.{cond, false}
 use mathlib.Core.List.{List, [], _∷_, _++_}
-use Prim.Native.Nat.{ℕ, _+_, _-_, _≤_, min}
+use Prim.Native.Nat.{ℕ, _+_, _≤_}
 use lib.Chars.{codes}
 use lib.Dec.{eqb}
-use lib.ListN.{length, take}
+use lib.ListN.{length}
 use Rattle.std.specs.declared.option.Option.the-variants.{None}
 use Rattle.std.specs.declared.result.Result.{Result}
-use Rattle.std.specs.declared.result.Result.the-variants.{Err}
 use Rattle.std.specs.shelf.Lists.{All, joined}
-use Rattle.text.specs.declared.faults.TextFault.{TextFault}
-use Rattle.text.specs.Verdicts.{Tested}
+use Rattle.builders.specs.declared.builds.BuildFault.{BuildFault}
 use Rattle.scripts.specs.Kinds.{kindName}
 use Rattle.scripts.specs.Lines.{lines}
-use Rattle.scripts.specs.Outcomes.{lineRefusal, script-limit}
-use Rattle.scripts.specs.Reading.{judged, Means}
+use Rattle.scripts.specs.Outcomes.{script-limit}
+use Rattle.scripts.specs.Reading.{Built, Means, judged}
+use Rattle.scripts.specs.Steps.{Drawn, drawn}
 use Rattle.scripts.specs.declared.faults.ScriptRefusal.{ScriptRefusal}
 use Rattle.scripts.specs.declared.kinds.Kind.{Kind}
 
@@ -49,13 +48,15 @@ pieceText newline = 10 ∷ []
 abbrev pub written : Kind → List Piece → List ℕ
 written k ps = withLF (kindName k) ++ (joined (λ p. withLF (pieceLine p)) ps ++ withLF (codes "show"))
 
+-- a text, and no pairs
+abbrev pub textOf : List Piece → Drawn
+textOf ps = drawn (joined pieceText ps) [] [] 0 None
+
 pub record ScriptLaws (script : List ℕ) : Type 0 where
   -- no other answer would do
   pub one-meaning : (a b : Result (List ℕ) ScriptRefusal) → Means script a → Means script b → a ≡ b
   -- the lines have no LF, and with one each they are the script again
   pub unbroken : All Unbroken (lines script)
   pub rejoined : joined withLF (lines script) ≡ completed script
-  -- a line that is refused as another or missing begins after the lines before it, or where the script ends
-  pub placed : length script ≤ script-limit → (line place : ℕ) → Means script (Err (lineRefusal line place)) → (1 ≤ line) × (line ≤ length (lines script) + 1) × (place ≡ min (length (joined withLF (take (line - 1) (lines script)))) (length script))
-  -- a script that is written out of lines means its pieces' bytes, as the test at its last line finds them
-  pub round-trip : (k : Kind) (ps : List Piece) → script ≡ written k ps → All (λ p. Unbroken (pieceLine p)) ps → length script ≤ script-limit → (verdict : Result (Unit {0}) TextFault) → Tested (joined pieceText ps) verdict → Means script (judged (joined pieceText ps) (length ps + 2) None verdict)
+  -- a script that is written out of lines shows its pieces' bytes with no pairs, as the build at its last line finds them
+  pub round-trip : (k : Kind) (ps : List Piece) → script ≡ written k ps → All (λ p. Unbroken (pieceLine p)) ps → length script ≤ script-limit → (built : Result ℕ BuildFault) → Built (textOf ps) built → Means script (judged (textOf ps) (length ps + 2) None built)

@@ -1,9 +1,12 @@
 pub mod Parts
 pub mod Words
 pub mod Lines
+pub mod Numbers
 pub mod Commands
 pub mod Faults
 pub mod Kinds
+pub mod Steps
+pub mod Records
 pub mod Outcomes
 pub mod Reading
 pub mod Laws

@@ -1,8 +1,11 @@
 //! The commands that the lines after a script's first one give.
 ghost use mathlib.Core.Path.{_≡_};
-ghost use Rattle.std.specs.Options.{mapped};
-ghost use denote.Ref.{now as pointed};
-ghost use Rattle.scripts.specs.Commands.{orderOf, lineOrder, added};
+ghost use Prim.Native.Nat.{_≤_};
+ghost use lib.ListN.{length};
+ghost use Rattle.std.specs.Results.{Cases};
+ghost use Rattle.scripts.specs.Commands.{ending, lineOrder, orderOf, orderly, wordOrder};
+use crate::numbers::Pair;
+use crate::numbers::read_pair;
 use crate::parts::spells;
 use crate::words::keyword;
 use crate::words::rest;
@@ -14,36 +17,65 @@ pub enum Command<'l> {
     Text(&'l [u8]),
     /// Append one LF to the text.
     Next,
+    /// Add a pair.
+    Rule(Pair),
+    /// Add a pair and go inside it.
+    Open(Pair),
+    /// Leave the pair that was opened last.
+    Close,
+    /// Tag the pair to tag with these bytes.
+    Tag(&'l [u8]),
     /// End the script.
     Show,
 }
 
 impl<'l> Command<'l> {
-    /// The bytes that the command appends to the text, or none where it ends the script.
-    pub fn appends(&self) -> Option<&'l [u8]>
-        ensures { λ r. ⌜ mapped pointed r ≡ added (orderOf (now (self .entry))) ⌝ }
+    /// Whether the command ends the script.
+    pub fn ends(&self) -> bool
+        ensures { λ r. ⌜ r ≡ ending (orderOf (now (self .entry))) ⌝ }
     {
         match self {
-            Command::Text(bytes) => Some(bytes),
-            Command::Next => Some(b"\n"),
-            Command::Show => None,
+            Command::Show => true,
+            _ => false,
         }
     }
 }
 
-/// The command of a line, or none where it is another line.
-/// `text` takes what stands after one space; nothing may follow `next` and `show`.
-pub fn read_command(line: &[u8]) -> Option<Command<'_>>
-    ensures { λ r. ⌜ mapped orderOf r ≡ lineOrder (now (line .entry)) ⌝ }
+// The command of a line by its keyword.
+fn read_words(line: &[u8]) -> Result<Command<'_>, usize>
+    ensures value { λ r. ⌜ orderly r ≡ wordOrder (now (line .entry)) ⌝ }
+    ensures within { λ r. ⌜ Cases r (λ _. Unit {0}) (λ p. p ≤ length (now (line .entry))) ⌝ }
+{
+    let word = keyword(line).bytes();
+    if spells(word, b"text") {
+        return Ok(Command::Text(rest(line, 5).bytes()));
+    }
+    if spells(word, b"tag") {
+        return Ok(Command::Tag(rest(line, 4).bytes()));
+    }
+    if spells(word, b"rule") {
+        return Ok(Command::Rule(read_pair(line)?));
+    }
+    if spells(word, b"open") {
+        return Ok(Command::Open(read_pair(line)?));
+    }
+    Err(0)
+}
+
+/// The command of a line, or the offset in the line of what is wrong with it: 0 where it is another line.
+/// `text` and `tag` take what stands after one space, `rule` and `open` three numbers; nothing may follow the others.
+pub fn read_command(line: &[u8]) -> Result<Command<'_>, usize>
+    ensures value { λ r. ⌜ orderly r ≡ lineOrder (now (line .entry)) ⌝ }
+    ensures within { λ r. ⌜ Cases r (λ _. Unit {0}) (λ p. p ≤ length (now (line .entry))) ⌝ }
 {
     if spells(line, b"next") {
-        return Some(Command::Next);
+        return Ok(Command::Next);
     }
     if spells(line, b"show") {
-        return Some(Command::Show);
+        return Ok(Command::Show);
     }
-    if spells(keyword(line).bytes(), b"text") {
-        return Some(Command::Text(rest(line, 5).bytes()));
+    if spells(line, b"close") {
+        return Ok(Command::Close);
     }
-    None
+    read_words(line)
 }

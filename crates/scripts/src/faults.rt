@@ -2,29 +2,44 @@
 ghost use mathlib.Core.Path.{_≡_};
 ghost use Rattle.std.specs.declared.option.Option.the-variants.{Some};
 ghost use Rattle.scripts.specs.Faults.{refusalOf, refusalLine};
-ghost use Rattle.scripts.specs.declared.faults.ScriptFault.the-variants.{Text};
+ghost use Rattle.scripts.specs.declared.faults.ScriptFault.the-variants.{Builder, Build};
 ghost use Rattle.scripts.specs.declared.faults.ScriptError.the-variants.{Refused, NoMemory};
+use builders::builds::BuildFault;
+use builders::builds::BuildFaultDebug;
+use builders::builds::BuildFaultPartialEq;
+use builders::faults::BuilderFault;
+use builders::faults::BuilderFaultDebug;
+use builders::faults::BuilderFaultPartialEq;
 use std::alloc::AllocError;
 use std::fmt;
-use text::faults::TextFault;
-use text::faults::TextFaultDebug;
-use text::faults::TextFaultPartialEq;
 use text::refusals::Refusal;
 
 /// What is wrong with a script.
 #[derive(Clone, Copy, PartialEq, Eq, Debug)]
 pub enum ScriptFault {
-    /// Another line than a script may have there, a missing line, or a byte over the size, at this offset of the script.
+    /// Another line than a script may have there, a missing line, a wrong number, or a byte over the size, at this offset of the script.
     Other { place: u32 },
-    /// The bytes that the script makes are no text.
-    Text(TextFault),
+    /// No rule has this code.
+    NoRule { code: u32 },
+    /// The builder refuses a pair, a tag or the end of a pair.
+    Builder(BuilderFault),
+    /// What the script has made cannot be built.
+    Build(BuildFault),
 }
 
-pub impl From<TextFault> for ScriptFault as ScriptFaultFromText {
-    ghost converts = { λ e r. r ≡ Text e };
+pub impl From<BuilderFault> for ScriptFault as ScriptFaultFromBuilder {
+    ghost converts = { λ e r. r ≡ Builder e };
 
-    fn from(e: TextFault) -> ScriptFault {
-        ScriptFault::Text(e)
+    fn from(e: BuilderFault) -> ScriptFault {
+        ScriptFault::Builder(e)
+    }
+}
+
+pub impl From<BuildFault> for ScriptFault as ScriptFaultFromBuild {
+    ghost converts = { λ e r. r ≡ Build e };
+
+    fn from(e: BuildFault) -> ScriptFault {
+        ScriptFault::Build(e)
     }
 }
 
@@ -36,7 +51,7 @@ pub struct ScriptRefusal {
 }
 
 impl ScriptRefusal {
-    /// Number 18 at an offset of the script, or the text's own refusal.
+    /// Number 18 at an offset of the script, 17 at a code, or the builder's own refusal.
     pub fn refusal(&self) -> Refusal
         ensures { λ r. ⌜ r ≡ refusalOf (now (self .entry) .fault) ⌝ }
     {
@@ -45,7 +60,12 @@ impl ScriptRefusal {
                 number: 18,
                 place: place as u64,
             },
-            ScriptFault::Text(fault) => fault.refusal(),
+            ScriptFault::NoRule { code } => Refusal {
+                number: 17,
+                place: code as u64,
+            },
+            ScriptFault::Builder(fault) => fault.refusal(),
+            ScriptFault::Build(fault) => fault.refusal(),
         }
     }
 }
@@ -63,12 +83,12 @@ pub impl fmt::Display for ScriptRefusal as ScriptRefusalDisplay {
     }
 }
 
-/// Why there is no text of a script.
+/// Why there is no record of a script.
 #[derive(Clone, Copy, PartialEq, Eq, Debug)]
 pub enum ScriptError {
     /// The script is refused.
     Refused(ScriptRefusal),
-    /// There was not memory enough for the text.
+    /// There was not memory enough, or the list that was lent had room for too few nodes.
     NoMemory,
 }
 

@@ -7,23 +7,42 @@ ghost use Rattle.std.specs.Of.Vec.{vec-items};
 ghost use Rattle.std.specs.Results.{Cases};
 ghost use Rattle.std.specs.Vec.{made};
 ghost use Rattle.std.specs.declared.result.Result.the-variants.{Ok, Err};
+ghost use Rattle.scripts.specs.Kinds.{kindCodes};
 ghost use Rattle.scripts.specs.Laws.{ScriptLaws};
-ghost use Rattle.scripts.specs.Outcomes.{left, lineAfter, lineRefusal, outcome, refused, script-limit, shownBefore, sized, started};
-ghost use Rattle.scripts.specs.Reading.{Fails, Means, Passes, Settles};
+ghost use Rattle.scripts.specs.Outcomes.{blank, left, lineAfter, lineRefusal, outcome, refused, script-limit, shownBefore, sized, started};
+ghost use Rattle.scripts.specs.Reading.{Builds, Fails, Means, Settles, token-limit};
+ghost use Rattle.scripts.specs.Steps.{coding, drawnOf};
 use crate::commands::read_command;
+use crate::drafts::Draft;
+use crate::drafts::NODES;
 use crate::faults::ScriptError;
 use crate::faults::ScriptErrorFromAlloc;
 use crate::faults::ScriptErrorFromRefusal;
 use crate::faults::ScriptFault;
-use crate::faults::ScriptFaultFromText;
+use crate::faults::ScriptFaultFromBuild;
 use crate::faults::ScriptRefusal;
+use crate::kinds::Kind;
 use crate::kinds::read_kind;
 use crate::lines::first_line;
+use crate::records::record_of;
+use builders::PairsBuilder;
+use queues::nodes::Nodes;
+use queues::pushes::SliceNodesList;
+use queues::records::Node;
+use queues::slices::SliceNodes;
+use queues::tokens::Token;
+use rules::GrammarRule;
+use rules::PlantRule;
+use rules::RuleType;
+use rules::grammar::GrammarRuleType;
+use rules::plant::PlantRuleType;
 use std::alloc::Global;
-use text::well_formed;
 
 /// The most bytes that a script may have.
 pub const LIMIT: usize = 32768;
+
+/// How many tokens the buffer has that a script is built into.
+pub const TOKENS: usize = 1024;
 
 /// The line of `show`, and what stands after it.
 #[derive(Clone, Copy)]
@@ -59,66 +78,100 @@ fn line_after(front: &[u8]) -> u32
     line
 }
 
-/// What stands after the first line, which has to name a kind.
-fn after_kind(script: &[u8]) -> Result<&[u8], ScriptRefusal>
-    ensures { λ r. ⌜ Cases r (λ rest. (length (now rest) ≤ length (now (script .entry))) × (started (now (script .entry)) ≡ left (length (now (script .entry))) 2 [] (now rest))) (λ f. started (now (script .entry)) ≡ refused f) ⌝ }
+/// The kind that the first line names, and what stands after that line.
+fn after_kind(script: &[u8]) -> Result<(Kind, &[u8]), ScriptRefusal>
+    ensures { λ r. ⌜ Cases r (λ p. (length (now (p .1)) ≤ length (now (script .entry))) × (started (now (script .entry)) ≡ left (kindCodes (p .0)) (length (now (script .entry))) 2 blank (now (p .1)))) (λ f. started (now (script .entry)) ≡ refused f) ⌝ }
 {
     let Some((line, rest)) = first_line(script) else {
         return Err(refuse(1, 0));
     };
     match read_kind(line) {
-        Some(_) => Ok(rest),
+        Some(kind) => Ok((kind, rest)),
         None => Err(refuse(1, 0)),
     }
 }
 
-/// Appends to `text` what the lines append, the first of which is the script's second, up to `show`.
-fn gather<'s>(text: &mut Vec<u8>, size: usize, from: &'s [u8]) -> Result<End<'s>, ScriptError>
+/// Does what the lines say, the first of which is the script's second, up to `show`.
+fn gather<'s, R: RuleType, N: Nodes<R>>(
+    draft: &mut Draft,
+    nodes: &mut N,
+    size: usize,
+    from: &'s [u8],
+) -> Result<End<'s>, ScriptError>
     requires within { ⌜ length (now from) ≤ size ⌝ }
     requires small { ⌜ size ≤ script-limit ⌝ }
-    ensures { λ r. ⌜ Cases r (λ end. (length (now (end .after)) ≤ size) × (end .line ≤ size + 2) × (left size 2 (vec-items (now (text .entry))) (now (from .entry)) ≡ shownBefore size (end .line) (vec-items (now (text .exit))) (now (end .after)))) (Fails (left size 2 (vec-items (now (text .entry))) (now (from .entry)))) ⌝ }
+    ensures { λ r. ⌜ Cases r (λ end. (length (now (end .after)) ≤ size) × (end .line ≤ size + 2) × (left (R·RuleType .codes) size 2 (drawnOf (now (draft .entry)) (coding (R·RuleType .coded) (N·Nodes .list (now (nodes .entry))))) (now (from .entry)) ≡ shownBefore size (end .line) (drawnOf (now (draft .exit)) (coding (R·RuleType .coded) (N·Nodes .list (now (nodes .exit))))) (now (end .after)))) (Fails (left (R·RuleType .codes) size 2 (drawnOf (now (draft .entry)) (coding (R·RuleType .coded) (N·Nodes .list (now (nodes .entry))))) (now (from .entry)))) ⌝ }
 {
     let mut rest = from;
     let mut line = 2;
     while let Some((bytes, after)) = first_line(rest) {
-        let Some(command) = read_command(bytes) else {
-            return Err(ScriptError::Refused(refuse(line, size - rest.len())));
+        let command = match read_command(bytes) {
+            Ok(command) => command,
+            Err(place) => return Err(ScriptError::Refused(refuse(line, size - rest.len() + place))),
         };
-        let Some(part) = command.appends() else {
+        if command.ends() {
             return Ok(End { line, after });
-        };
-        text.extend_from_slice(part)?;
+        }
+        if let Err(problem) = draft.step(nodes, command) {
+            return Err(problem.at(line));
+        }
         rest = after;
         line += 1;
     }
     Err(ScriptError::Refused(refuse(line, size)))
 }
 
-/// Whether the bytes are a text.
-fn test(text: &[u8]) -> Result<(), ScriptFault>
-    ensures { λ r. ⌜ Passes (now (text .entry)) r ⌝ }
+/// Builds what the lines have made: how many tokens there are.
+fn build<R: RuleType, N: Nodes<R>>(
+    builder: PairsBuilder,
+    nodes: &N,
+    text: &[u8],
+    labels: &[u8],
+    buffer: &mut [Token<R>],
+) -> Result<usize, ScriptFault>
+    requires { ⌜ length (now buffer) ≡ token-limit ⌝ }
+    ensures { λ r. ⌜ Builds (builder .depth) (coding (R·RuleType .coded) (N·Nodes .list (now (nodes .entry)))) (now (text .entry)) (now (labels .entry)) r ⌝ }
 {
-    well_formed(text)?;
-    Ok(())
+    match builder.build(nodes, text, labels, buffer) {
+        Ok(count) => Ok(count),
+        Err(refused) => Err(ScriptFault::from(refused.fault)),
+    }
 }
 
-/// Tests the text at `show`, and then that nothing follows.
-fn finish(text: Vec<u8>, size: usize, end: End<'_>) -> Result<Vec<u8>, ScriptRefusal>
+/// Builds at `show`, tests that nothing follows, and makes the record.
+fn finish<R: RuleType, N: Nodes<R>>(
+    heap: Global,
+    draft: Draft,
+    nodes: &N,
+    buffer: &mut [Token<R>],
+    size: usize,
+    end: End<'_>,
+) -> Result<Vec<u8>, ScriptError>
+    requires room { ⌜ length (now buffer) ≡ token-limit ⌝ }
     requires within { ⌜ length (now (end .after)) ≤ size ⌝ }
     requires small { ⌜ size ≤ script-limit ⌝ }
     requires line { ⌜ end .line ≤ size + 2 ⌝ }
-    ensures { λ r. ⌜ Cases r (λ v. Settles (shownBefore size (end .entry .line) (vec-items text) (now (end .entry .after))) (Ok (vec-items v))) (λ f. Settles (shownBefore size (end .entry .line) (vec-items text) (now (end .entry .after))) (Err f)) ⌝ }
+    ensures { λ r. ⌜ Cases r (λ v. Settles (shownBefore size (end .entry .line) (drawnOf draft (coding (R·RuleType .coded) (N·Nodes .list (now (nodes .entry))))) (now (end .entry .after))) (Ok (vec-items v))) (Fails (shownBefore size (end .entry .line) (drawnOf draft (coding (R·RuleType .coded) (N·Nodes .list (now (nodes .entry))))) (now (end .entry .after)))) ⌝ }
 {
-    if let Err(fault) = test(text.as_slice()) {
-        return Err(ScriptRefusal {
-            line: end.line,
-            fault,
-        });
-    }
+    let Draft {
+        text,
+        labels,
+        builder,
+    } = draft;
+    let count = match build(builder, nodes, text.as_slice(), labels.as_slice(), buffer) {
+        Ok(count) => count,
+        Err(fault) => {
+            return Err(ScriptError::Refused(ScriptRefusal {
+                line: end.line,
+                fault,
+            }));
+        }
+    };
     if !end.after.is_empty() {
-        return Err(refuse(end.line + 1, size - end.after.len()));
+        return Err(ScriptError::Refused(refuse(end.line + 1, size - end.after.len())));
     }
-    Ok(text)
+    let made = record_of(heap, text.as_slice(), labels.as_slice(), nodes, count)?;
+    Ok(made)
 }
 
 /// Whether a script is within the limit. A longer one is refused at the first byte over it.
@@ -133,21 +186,103 @@ fn check_size(script: &[u8]) -> Result<(), ScriptRefusal>
     Ok(())
 }
 
-/// The text that a script within the limit makes.
-fn read_lines(heap: Global, script: &[u8]) -> Result<Vec<u8>, ScriptError>
-    requires { ⌜ length (now script) ≤ script-limit ⌝ }
-    ensures { λ r. ⌜ Cases r (λ text. Settles (started (now (script .entry))) (Ok (vec-items text))) (Fails (started (now (script .entry)))) ⌝ }
+/// The record that the lines after the first one make, over an empty list of nodes.
+fn run<R: RuleType, N: Nodes<R>>(
+    heap: Global,
+    nodes: &mut N,
+    buffer: &mut [Token<R>],
+    size: usize,
+    body: &[u8],
+) -> Result<Vec<u8>, ScriptError>
+    requires room { ⌜ length (now buffer) ≡ token-limit ⌝ }
+    requires empty { ⌜ N·Nodes .list (now nodes) ≡ [] ⌝ }
+    requires within { ⌜ length (now body) ≤ size ⌝ }
+    requires small { ⌜ size ≤ script-limit ⌝ }
+    ensures { λ r. ⌜ Cases r (λ v. Settles (left (R·RuleType .codes) size 2 blank (now (body .entry))) (Ok (vec-items v))) (Fails (left (R·RuleType .codes) size 2 blank (now (body .entry)))) ⌝ }
 {
-    let body = after_kind(script)?;
-    let mut text = Vec::new(heap);
-    let end = gather(&mut text, script.len(), body)?;
-    Ok(finish(text, script.len(), end)?)
+    let mut draft = Draft::new(heap);
+    let end = gather(&mut draft, nodes, size, body)?;
+    let made = finish(heap, draft, nodes, buffer, size, end)?;
+    Ok(made)
 }
 
-/// The text that a script makes. Refused are a script over the limit, before all else; then the first line that is
-/// another than the rules have there or is missing, and at `show` bytes that are no text.
+/// The same over a slice of nodes.
+fn run_over<R: RuleType>(
+    heap: Global,
+    nodes: &mut [Node<R>],
+    buffer: &mut [Token<R>],
+    size: usize,
+    body: &[u8],
+) -> Result<Vec<u8>, ScriptError>
+    requires room { ⌜ length (now buffer) ≡ token-limit ⌝ }
+    requires within { ⌜ length (now body) ≤ size ⌝ }
+    requires small { ⌜ size ≤ script-limit ⌝ }
+    ensures { λ r. ⌜ Cases r (λ v. Settles (left (R·RuleType .codes) size 2 blank (now (body .entry))) (Ok (vec-items v))) (Fails (left (R·RuleType .codes) size 2 blank (now (body .entry)))) ⌝ }
+{
+    let mut list = SliceNodes::over(nodes, 0);
+    run(heap, &mut list, buffer, size, body)
+}
+
+/// The same for the plant's rules, over a list of 512 nodes.
+fn run_plant(heap: Global, size: usize, body: &[u8]) -> Result<Vec<u8>, ScriptError>
+    requires within { ⌜ length (now body) ≤ size ⌝ }
+    requires small { ⌜ size ≤ script-limit ⌝ }
+    ensures { λ r. ⌜ Cases r (λ v. Settles (left 12 size 2 blank (now (body .entry))) (Ok (vec-items v))) (Fails (left 12 size 2 blank (now (body .entry)))) ⌝ }
+{
+    let mut nodes = [Node {
+        rule: PlantRule::Line,
+        start: 0,
+        end: 0,
+        depth: 0,
+        tag: None,
+    }; NODES];
+    let mut buffer = [Token::Start {
+        link: 0,
+        position: 0,
+    }; TOKENS];
+    run_over(heap, &mut nodes, &mut buffer, size, body)
+}
+
+/// The same for the grammar's rules, over a list of 512 nodes.
+fn run_grammar(heap: Global, size: usize, body: &[u8]) -> Result<Vec<u8>, ScriptError>
+    requires within { ⌜ length (now body) ≤ size ⌝ }
+    requires small { ⌜ size ≤ script-limit ⌝ }
+    ensures { λ r. ⌜ Cases r (λ v. Settles (left 65536 size 2 blank (now (body .entry))) (Ok (vec-items v))) (Fails (left 65536 size 2 blank (now (body .entry)))) ⌝ }
+{
+    // The nodes past the list's end are never looked at; there is a rule 0 of grammar 0.
+    let Some(rule) = GrammarRule::new(0, 0) else {
+        return Err(ScriptError::NoMemory);
+    };
+    let mut nodes = [Node {
+        rule: rule,
+        start: 0,
+        end: 0,
+        depth: 0,
+        tag: None,
+    }; NODES];
+    let mut buffer = [Token::Start {
+        link: 0,
+        position: 0,
+    }; TOKENS];
+    run_over(heap, &mut nodes, &mut buffer, size, body)
+}
+
+/// The record that a script within the limit makes.
+fn read_lines(heap: Global, script: &[u8]) -> Result<Vec<u8>, ScriptError>
+    requires { ⌜ length (now script) ≤ script-limit ⌝ }
+    ensures { λ r. ⌜ Cases r (λ v. Settles (started (now (script .entry))) (Ok (vec-items v))) (Fails (started (now (script .entry)))) ⌝ }
+{
+    let (kind, body) = after_kind(script)?;
+    match kind {
+        Kind::Plant => run_plant(heap, script.len(), body),
+        Kind::Grammar => run_grammar(heap, script.len(), body),
+    }
+}
+
+/// The bytes of the record that a script makes. Refused are a script over the limit, before all else; then the first line that
+/// is another than the rules have there or is missing, or that the builder refuses, and at `show` what cannot be built.
 pub fn read(heap: Global, script: &[u8]) -> Result<Vec<u8>, ScriptError>
-    ensures meaning { λ r. ⌜ Cases r (λ text. Means (now (script .entry)) (Ok (vec-items text))) (Fails (outcome (now (script .entry)))) ⌝ }
+    ensures meaning { λ r. ⌜ Cases r (λ v. Means (now (script .entry)) (Ok (vec-items v))) (Fails (outcome (now (script .entry)))) ⌝ }
     ensures laws { λ _. ⌜ ScriptLaws (now (script .entry)) ⌝ }
 {
     check_size(script)?;

@@ -5,16 +5,16 @@ use scripts::reading::LIMIT;
 use scripts::reading::read;
 use std::error::AnyError;
 use std::io::Read;
+use std::io::Write;
 
 fn run(rt: &LibcRuntime) -> Result<(), AnyError> {
     let mut script = Vec::new(rt.alloc());
     // One byte over the limit is enough to refuse a longer script.
     rt.stdin().take(LIMIT as u64 + 1).read_to_end(&mut script)?;
     match read(rt.alloc(), script.as_slice()) {
-        // No script has pairs yet: no pairs, and no tokens.
-        Ok(_) => println!(rt, "0 0")?,
+        Ok(record) => rt.stdout().write_all(record.as_slice())?,
         Err(ScriptError::Refused(refusal)) => println!(rt, "{refusal}")?,
-        Err(ScriptError::NoMemory) => return Err("no memory for the text".into()),
+        Err(ScriptError::NoMemory) => return Err("no memory for the record".into()),
     }
     Ok(())
 }

@@ -7,7 +7,7 @@ use Rattle.scripts.proofs.Turns.{taken, kinds, unkind}
 pub returns-in-Some-read-kind : need.returns-in-Some-read-kind
 returns-in-Some-read-kind c =
     let t = taken (c .args .script .now) (c .in-Some .line .now) (c .in-Some .rest .now) (c .in-Some .ensures tt) in
-    (omega (arith, t .shorter), kinds (c .args .script .now) (c .in-Some .line .now) (c .in-Some .rest .now) (c .in-Some-read-kind .field-0) t (c .in-Some-read-kind .ensures tt))
+    (omega (arith, t .shorter), kinds (c .args .script .now) (c .in-Some .line .now) (c .in-Some .rest .now) (c .in-Some-read-kind .kind) t (c .in-Some-read-kind .ensures tt))
 
 pub returns-in-None : need.returns-in-None
 returns-in-None c =
