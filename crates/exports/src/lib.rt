@@ -1,4 +1,6 @@
 //! The library's calls for a driver in Rust or C: numbers and byte slices alone.
+#![tactic(auto)]
+
 ghost use Rattle.std.specs.Prelude.{◌≡◌};
 ghost use Rattle.text.specs.Verdicts.{Tested};
 ghost use Rattle.exports.specs.Numbers.{numbered};

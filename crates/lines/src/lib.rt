@@ -1,4 +1,6 @@
 //! Lines and columns of a text, by reading it or by a table of its line starts.
+#![tactic(auto)]
+
 pub mod faults;
 mod fills;
 pub mod indexes;

@@ -1,4 +1,6 @@
 //! Nodes with their depths, the forest that they list, and the queue of tokens that it writes.
+#![tactic(auto)]
+
 pub mod nodes;
 pub mod pushes;
 pub mod records;

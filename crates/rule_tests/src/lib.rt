@@ -1,4 +1,6 @@
 //! Examples of the rule types: codes both ways, at the edges and past them.
+#![tactic(auto)]
+
 #[cfg(test)]
 mod grammar;
 #[cfg(test)]

@@ -1,3 +1,4 @@
+-- Each code below twelve has its rule: a rule in a list whose codes go up by one from k on.
 use Rattle.std.specs.Prelude.{◌≡◌, ℕ, zero, suc, ◌+◌, ◌<◌, Bool, true, ◌&&◌, T, List, [], ◌∷◌, length, ◌==◌}
 use Rattle.std.proofs.Common.{arith, eqb→eq}
 use mir.ValLaws.{and_both}

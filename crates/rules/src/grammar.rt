@@ -48,13 +48,13 @@ impl RuleType for GrammarRule {
 
     ghost coded = { λ x. grammar_code x.grammar x.number };
 
-    ghost few = { first_of (Prim.search rules, Prim.grind (arith, Self.row.coded.inj)) };
+    ghost few = { Prim.search rules };
 
-    ghost below = { first_of (Prim.search rules, Prim.grind (arith, Self.row.coded.inj)) };
+    ghost below = { Prim.search rules };
 
-    ghost apart = { first_of (Prim.search rules, Prim.grind (arith, Self.row.coded.inj)) };
+    ghost apart = { Prim.grind (arith, Self.row.coded.inj) };
 
-    ghost each = { λ n h. (record { grammar = n / 4096; number = n % 4096; few = omega arith; small = omega arith }, omega arith) };
+    ghost each = { λ n h. (record { grammar = n / 4096; number = n % 4096; few = Prim.omega arith; small = Prim.omega arith }, Prim.omega arith) };
 
     fn code(self) -> u32 {
         let GrammarRule { grammar, number } = self;

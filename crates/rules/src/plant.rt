@@ -42,7 +42,7 @@ impl RuleType for PlantRule {
     ghost each = { λ n h.
         let all : List PlantRule = Line ∷ Stamp ∷ Plant ∷ Key ∷ Value ∷ Unit ∷ Brine ∷ Setpoint ∷ Alarm ∷ Note ∷ Comment ∷ End ∷ [] in
         let r = nth 0 n all tt h in
-        (r.0, omega (arith, r.1)) };
+        (r.0, Prim.omega (arith, r.1)) };
 
     fn code(self) -> u32 {
         self as u32

@@ -1,4 +1,6 @@
 //! Scripts, and what the rules say of each: the record that it prints, or the line that refuses it.
+#![tactic(auto)]
+
 #[cfg(test)]
 mod tests {
     use scripts::faults::ScriptError;

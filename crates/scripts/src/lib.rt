@@ -1,4 +1,6 @@
 //! Scripts: what a script's lines say, the record that they make, and the refusals.
+#![tactic(auto)]
+
 pub mod commands;
 pub mod drafts;
 pub mod faults;

@@ -1,4 +1,6 @@
 //! Where characters begin in a text, which spans of it are sound, and why one is not.
+#![tactic(auto)]
+
 pub mod characters;
 pub mod faults;
 pub mod sound;

@@ -1,4 +1,6 @@
 //! Which bytes are a text: at most 1,048,576 of them, well-formed UTF-8 by Table 3-7 of the Unicode Standard.
+#![tactic(auto)]
+
 mod ascii;
 pub mod faults;
 pub mod limits;

@@ -1,4 +1,6 @@
 //! Examples of the rules for texts, spans and lines: expected values come from the Unicode Standard's table and from the rules.
+#![tactic(auto)]
+
 #[cfg(test)]
 mod lines;
 #[cfg(test)]

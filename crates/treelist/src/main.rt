@@ -1,4 +1,6 @@
 //! Reads a script from standard input, and prints what it shows or the line that refuses it.
+#![tactic(auto)]
+
 use anyhow::anyhow;
 use scripts::faults::ScriptError;
 use scripts::reading::{LIMIT, read};

@@ -16,13 +16,13 @@ none_found : (o : Option NodeFault) (x : Unit {0}) → unless o ≡ Ok x → o �
 none_found None x e = cc
 none_found (Some h) x e = cc
 
-pub returns-in-err-check-node : goal.returns-in-err-check-node
-returns-in-err-check-node g c =
+pub returns-in_err-check_node : goal.returns-in_err-check_node
+returns-in_err-check_node g c =
     let ns = g.N.Nodes.list c.args.nodes.now in
     let i = c.loop-i.i in
-    let f = c.in-err-check-node.field-0.0 in
-    let p = err_from_is_err_and c.from-residual.result c.from-residual.ensures.1 in
-    let some : node_span c.args.text.now i (slice_get ns i) ≡ Some f = ap (node_span c.args.text.now i) (sym c.node.ensures) ∙ found (node_span c.args.text.now i c.node.result) f (sym c.check-node.ensures ∙ c.in-err-check-node.was) in
+    let f = c.in_err-check_node.field-0.0 in
+    let p = err_from_is_err_and c.from_residual.result c.from_residual.ensures.1 in
+    let some : node_span c.args.text.now i (slice_get ns i) ≡ Some f = ap (node_span c.args.text.now i) (sym c.node.ensures) ∙ found (node_span c.args.text.now i c.node.result) f (sym c.check_node.ensures ∙ c.in_err-check_node.was) in
     let step : node_fault_from c.args.text.now 0 ns ≡ Some f = sym c.loop-i.invariant ∙ span_step c.args.text.now ns i (omega (arith, c.len-i-end.ensures)) ∙ ap (λ o. or_else o (node_fault_from c.args.text.now (i + 1) (drop (i + 1) ns))) some in
     p.1 ∙ ap Err p.2 ∙ ap unless (sym step)
 
@@ -30,7 +30,7 @@ pub loop-i-preserved : goal.loop-i-preserved
 loop-i-preserved g c =
     let ns = g.N.Nodes.list c.args.nodes.now in
     let i = c.loop-i.i in
-    let none : node_span c.args.text.now i (slice_get ns i) ≡ None = ap (node_span c.args.text.now i) (sym c.node.ensures) ∙ none_found (node_span c.args.text.now i c.node.result) tt (sym c.check-node.ensures ∙ c.in-ok-check-node.was) in
+    let none : node_span c.args.text.now i (slice_get ns i) ≡ None = ap (node_span c.args.text.now i) (sym c.node.ensures) ∙ none_found (node_span c.args.text.now i c.node.result) tt (sym c.check_node.ensures ∙ c.in_ok-check_node.was) in
     sym (span_step c.args.text.now ns i (omega (arith, c.len-i-end.ensures)) ∙ ap (λ o. or_else o (node_fault_from c.args.text.now (i + 1) (drop (i + 1) ns))) none) ∙ c.loop-i.invariant
 
 pub returns : goal.returns

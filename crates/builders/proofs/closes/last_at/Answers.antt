@@ -11,13 +11,13 @@ loop-i-init g c =
     let l : length (depths ns) ≤ c.len-i.result = omega (arith, c.len-i.ensures, length-map ns (λ n. n.depth)) in
     (omega (arith, c.len-i.ensures), at_drop_all (last_from c.args.depth c.len-i.result) (depths ns) c.len-i.result l)
 
-pub returns-then-has-depth : goal.returns-then-has-depth
-returns-then-has-depth g c =
+pub returns-then-has_depth : goal.returns-then-has_depth
+returns-then-has_depth g c =
     let ns = g.N.Nodes.list c.args.nodes.now in
     let i = c.loop-i.i - 1 in
     let e : c.loop-i.i ≡ i + 1 = omega arith in
     let n = subst (λ k. last_from c.args.depth k (drop k (depths ns)) ≡ None) e c.loop-i.invariant.1 in
-    sym (last_here ns c.args.depth i (omega arith) n (ap (λ o. has_depth o c.args.depth) (sym c.node.ensures) ∙ sym c.has_depth_lem.ensures ∙ c.if-has-depth.true))
+    sym (last_here ns c.args.depth i (omega arith) n (ap (λ o. has_depth o c.args.depth) (sym c.node.ensures) ∙ sym c.has_depth.ensures ∙ c.if-has_depth.true))
 
 pub loop-i-preserved : goal.loop-i-preserved
 loop-i-preserved g c =
@@ -25,4 +25,4 @@ loop-i-preserved g c =
     let i = c.loop-i.i - 1 in
     let e : c.loop-i.i ≡ i + 1 = omega arith in
     let n = subst (λ k. last_from c.args.depth k (drop k (depths ns)) ≡ None) e c.loop-i.invariant.1 in
-    (omega arith, last_before ns c.args.depth i (omega arith) n (ap (λ o. has_depth o c.args.depth) (sym c.node.ensures) ∙ sym c.has_depth_lem.ensures ∙ c.if-has-depth.false))
+    (omega arith, last_before ns c.args.depth i (omega arith) n (ap (λ o. has_depth o c.args.depth) (sym c.node.ensures) ∙ sym c.has_depth.ensures ∙ c.if-has_depth.false))

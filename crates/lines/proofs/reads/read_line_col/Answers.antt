@@ -5,7 +5,7 @@ use Rattle.lines.specs.LineCols.{line_col}
 use Rattle.lines.specs.Starts.{starts}
 use Rattle.lines.proofs.Reading.{last_line, line_feed_lem, line_goes, line_col_front}
 use Rattle.lines.proofs.reads.read_line_col.Goals as goal
-use Rattle.lines.proofs.reads.read_line_col.Goals.{then-b-eq10, else-b-eq10+then-begins-character, else-b-eq10+else-begins-character}
+use Rattle.lines.proofs.reads.read_line_col.Goals.{then-b-eq10, else-b-eq10+then-begins_character, else-b-eq10+else-begins_character}
 
 pub loop-b-preserved : goal.loop-b-preserved
 loop-b-preserved c =
@@ -21,13 +21,13 @@ loop-b-preserved c =
       | then-b-eq10 w ↦
           let f = line_feed_lem p b w.if-b-eq10.true in
           (omega (arith, w.line-is, s, f.0, inv.0), (omega (arith, w.column-is, t, f.1), (omega (arith, w.line-is, inv.1.1.0), omega (arith, w.column-is))))
-      | else-b-eq10+then-begins-character w ↦
+      | else-b-eq10+then-begins_character w ↦
           let f = line_goes p b w.if-b-eq10.false in
-          let one : ◌≡◌ {A = ℕ} (cond (begins b) 1 0) 1 = ap (λ x. cond x 1 0) (sym w.begins-character.ensures ∙ w.if-begins-character.true) in
+          let one : ◌≡◌ {A = ℕ} (cond (begins b) 1 0) 1 = ap (λ x. cond x 1 0) (sym w.begins_character.ensures ∙ w.if-begins_character.true) in
           (omega (arith, w.line-is, s, f.0, inv.0), (omega (arith, w.column-is, t, f.1, one, inv.1.0), (omega (arith, w.line-is, inv.1.1.0), omega (arith, w.column-is, inv.1.1.1))))
-      | else-b-eq10+else-begins-character w ↦
+      | else-b-eq10+else-begins_character w ↦
           let f = line_goes p b w.if-b-eq10.false in
-          let none : ◌≡◌ {A = ℕ} (cond (begins b) 1 0) 0 = ap (λ x. cond x 1 0) (sym w.begins-character.ensures ∙ w.if-begins-character.false) in
+          let none : ◌≡◌ {A = ℕ} (cond (begins b) 1 0) 0 = ap (λ x. cond x 1 0) (sym w.begins_character.ensures ∙ w.if-begins_character.false) in
           (omega (arith, w.line-is, s, f.0, inv.0), (omega (arith, w.column-is, t, f.1, none, inv.1.0), (omega (arith, w.line-is, inv.1.1.0), omega (arith, w.column-is, inv.1.1.1))))
     ]
 

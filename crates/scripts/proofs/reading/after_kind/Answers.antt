@@ -3,10 +3,10 @@ use Rattle.scripts.specs.Outcomes.{refused}
 use Rattle.scripts.proofs.reading.after_kind.Goals as goal
 use Rattle.scripts.proofs.Turns.{taken, kinds, unkind}
 
-pub returns-in-Some-read-kind : goal.returns-in-Some-read-kind
-returns-in-Some-read-kind c =
+pub returns-in-Some-read_kind : goal.returns-in-Some-read_kind
+returns-in-Some-read_kind c =
     let t = taken c.args.script.now c.in-Some.line.now c.in-Some.rest.now c.in-Some.ensures in
-    (omega (arith, t.shorter), kinds c.args.script.now c.in-Some.line.now c.in-Some.rest.now c.in-Some-read-kind.kind t c.in-Some-read-kind.ensures)
+    (omega (arith, t.shorter), kinds c.args.script.now c.in-Some.line.now c.in-Some.rest.now c.in-Some-read_kind.kind t c.in-Some-read_kind.ensures)
 
 pub returns-in-None : goal.returns-in-None
 returns-in-None c =

@@ -6,7 +6,7 @@ use Rattle.scripts.proofs.reading.check_size.Goals as goal
 
 pub returns-then-script-gt-LIMIT : goal.returns-then-script-gt-LIMIT
 returns-then-script-gt-LIMIT c =
-    let is = c.refuse.ensures ∙ ap (λ n. line_refusal n script_limit) c.line-after.ensures in
+    let is = c.refuse.ensures ∙ ap (λ n. line_refusal n script_limit) c.line_after.ensures in
     record { value = ap Err is ∙ over c.args.script.now c.if-script-gt-LIMIT.true; small = tt; laws = script_laws c.args.script.now }
 
 pub returns : goal.returns

@@ -45,6 +45,6 @@ loop-bytes-preserved g c =
     let more = drawn_of c.step.new.self (coding g.R.RuleType.coded (g.N.Nodes.list c.step.new.nodes)) in (
       omega (arith, t.shorter, c.loop-bytes.invariant.0),
       omega (arith, t.shorter, c.loop-bytes.invariant.1),
-      sym (adds g.R.RuleType.codes c.args.size c.loop-bytes.line d more c.loop-bytes.rest.now c.in-Some.bytes.now c.in-Some.after.now (order_of c.in-Ok.command) c.loop-bytes.invariant.1 t c.in-Ok.ensures.value c.if-ends.ensures c.in-default-step.ensures)
+      sym (adds g.R.RuleType.codes c.args.size c.loop-bytes.line d more c.loop-bytes.rest.now c.in-Some.bytes.now c.in-Some.after.now (order_of c.in-Ok.command) c.loop-bytes.invariant.1 t c.in-Ok.ensures.value c.if-ends.ensures c.in_default-step.ensures)
           ∙ c.loop-bytes.invariant.2,
     )

@@ -9,8 +9,8 @@ use Rattle.scripts.proofs.reading.line_after.Goals.{then-byte-eq10, else-byte-eq
 abbrev ends : ℕ → Bool
 ends b = eqb b 10
 
-pub overflow-add-line : goal.overflow-add-line
-overflow-add-line c =
+pub overflow_add-line : goal.overflow_add-line
+overflow_add-line c =
     let front = take c.loop-byte.byte-index c.args.front.now in
     omega (arith, c.loop-byte.invariant, count_by-le-length ends front, length-take c.loop-byte.byte-index c.args.front.now)
 

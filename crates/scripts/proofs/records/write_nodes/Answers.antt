@@ -2,11 +2,11 @@ use Rattle.std.proofs.Common.{◌≤◌, length, vec_items, arith}
 use Rattle.scripts.proofs.Written.{all_written, node_written, past_all}
 use Rattle.scripts.proofs.records.write_nodes.Goals as goal
 
-pub returns-in-default : goal.returns-in-default
-returns-in-default g c = all_written g.R.RuleType.coded c.args.text.now c.args.labels.now (vec_items c.loop-i.out) _ (g.N.Nodes.list c.args.nodes.now) c.loop-i.i c.in-default.ensures c.loop-i.invariant
+pub returns-in_default : goal.returns-in_default
+returns-in_default g c = all_written g.R.RuleType.coded c.args.text.now c.args.labels.now (vec_items c.loop-i.out) _ (g.N.Nodes.list c.args.nodes.now) c.loop-i.i c.in_default.ensures c.loop-i.invariant
 
 pub loop-i-preserved : goal.loop-i-preserved
-loop-i-preserved g c = node_written g.R.RuleType.coded c.args.text.now c.args.labels.now (vec_items c.loop-i.out) (vec_items c.write-node.new.out) _ (g.N.Nodes.list c.args.nodes.now) c.loop-i.i c.in-Some.node c.in-Some.ensures c.in-ok-write-node.ensures c.loop-i.invariant
+loop-i-preserved g c = node_written g.R.RuleType.coded c.args.text.now c.args.labels.now (vec_items c.loop-i.out) (vec_items c.write_node.new.out) _ (g.N.Nodes.list c.args.nodes.now) c.loop-i.i c.in-Some.node c.in-Some.ensures c.in_ok-write_node.ensures c.loop-i.invariant
 
 pub returns : goal.returns
 returns g c =

@@ -19,10 +19,10 @@ pub returns-in-240-to-244 : goal.returns-in-240-to-244
 unfolding led
 returns-in-240-to-244 c = length_of c.args.lead _ (grind (arith, nat_tests)) (omega arith) (omega arith)
 
-pub returns-in-default : goal.returns-in-default
+pub returns-in_default : goal.returns-in_default
 unfolding led
-returns-in-default c = leads_none c.args.lead (grind (arith, nat_tests))
+returns-in_default c = leads_none c.args.lead (grind (arith, nat_tests))
 
-pub returns-in-default·2 : goal.returns-in-default·2
+pub returns-in_default-2 : goal.returns-in_default-2
 unfolding led
-returns-in-default·2 c = leads_none c.args.lead (grind (arith, nat_tests))
+returns-in_default-2 c = leads_none c.args.lead (grind (arith, nat_tests))

@@ -10,17 +10,17 @@ passed : (xs : List ℕ) (r : Option (Bor (List ℕ))) → MatchOption r (Fronts
 passed xs None f = f
 passed xs (Some t) f = passed_front xs t.now f
 
-pub returns-in-default : goal.returns-in-default
-returns-in-default c = none_empty c.args.text.now (search rules)
+pub returns-in_default : goal.returns-in_default
+returns-in_default c = none_empty c.args.text.now (search rules)
 
 pub returns-then-first-ge128 : goal.returns-then-first-ge128
-returns-then-first-ge128 c = passed c.args.text.now c.after-sequence.result c.after-sequence.ensures
+returns-then-first-ge128 c = passed c.args.text.now c.after_sequence.result c.after_sequence.ensures
 
 -- the first byte, the blocks after it, and the bytes after those
 pub returns : goal.returns
 returns c =
     let text = c.args.text.now in
     let some : 1 ≤ length text = search rules in
-    let b : Skipped (drop 1 text) c.after-blocks.result.now = rw take_rest at c.after-blocks.ensures in
-    let s : Skipped (drop 1 text) c.after-bytes.result.now = skipped_more b c.after-bytes.ensures in
+    let b : Skipped (drop 1 text) c.after_blocks.result.now = rw take_rest at c.after_blocks.ensures in
+    let s : Skipped (drop 1 text) c.after_bytes.result.now = skipped_more b c.after_bytes.ensures in
     (skipped_more (skipped_first text some c.if-first-ge128.false) s, omega (arith, skipped_length s, length-drop 1 text))

@@ -23,4 +23,4 @@ pub returns : goal.returns
 returns c =
     let text = c.args.text.now in
     let rest = c.loop-more.rest.now in
-    subst (Longest text) (omega arith) (c.loop-more.invariant.1 0 (longest_stop rest c.in-default.ensures))
+    subst (Longest text) (omega arith) (c.loop-more.invariant.1 0 (longest_stop rest c.in_default.ensures))

@@ -8,17 +8,17 @@ use Rattle.lines.proofs.indexes.LineIndex.note.Goals.{then-b-eq10, else-b-eq10}
 pub loop-i-init : goal.loop-i-init
 loop-i-init c = (noted_none c.args.text.now c.args.self.now.line_offsets.now (omega arith), (refl, refl))
 
-pub offset-bounds-self-n : goal.offset-bounds-self-n
-offset-bounds-self-n c = let h = noted_room c.args.self.now.line_offsets.now (omega arith) c.if-b-eq10.true c.requires.count c.requires.room c.loop-i.invariant.0 in search rules
+pub offset_bounds-self-n : goal.offset_bounds-self-n
+offset_bounds-self-n c = let h = noted_room c.args.self.now.line_offsets.now (omega arith) c.if-b-eq10.true c.requires.count c.requires.room c.loop-i.invariant.0 in search rules
 
 pub bounds-self-n : goal.bounds-self-n
 bounds-self-n c = (noted_room c.args.self.now.line_offsets.now (omega arith) c.if-b-eq10.true c.requires.count c.requires.room c.loop-i.invariant.0).1
 
-pub invariant-of-self-then-b-eq10 : goal.invariant-of-self-then-b-eq10
-invariant-of-self-then-b-eq10 c = (omega (arith, c.loop-i.invariant.1.0), (rising_alone (set c.loop-i.self.line_offsets.now c.loop-i.n (c.loop-i.i + 1)) c.loop-i.self.more c.loop-i.invariant.1.0, tt))
+pub invariant_of-self-then-b-eq10 : goal.invariant_of-self-then-b-eq10
+invariant_of-self-then-b-eq10 c = (omega (arith, c.loop-i.invariant.1.0), (rising_alone (set c.loop-i.self.line_offsets.now c.loop-i.n (c.loop-i.i + 1)) c.loop-i.self.more c.loop-i.invariant.1.0, tt))
 
-pub overflow-add-n : goal.overflow-add-n
-overflow-add-n c = let h = noted_room c.args.self.now.line_offsets.now (omega arith) c.if-b-eq10.true c.requires.count c.requires.room c.loop-i.invariant.0 in search rules
+pub overflow_add-n : goal.overflow_add-n
+overflow_add-n c = let h = noted_room c.args.self.now.line_offsets.now (omega arith) c.if-b-eq10.true c.requires.count c.requires.room c.loop-i.invariant.0 in search rules
 
 pub loop-i-preserved : goal.loop-i-preserved
 loop-i-preserved c =
@@ -35,8 +35,8 @@ loop-i-preserved c =
       | else-b-eq10 w ↦ rw (w.self-is, w.n-is) (noted_skip text i n old buffer (omega arith) w.if-b-eq10.false inv.0, inv.1)
     ]
 
-pub invariant-of-self-3 : goal.invariant-of-self-3
-invariant-of-self-3 c =
+pub invariant_of-self-3 : goal.invariant_of-self-3
+invariant_of-self-3 c =
     let old = c.args.self.now.line_offsets.now in
     let p = c.loop-i.invariant.0 in
     let all = noted_all old c.loop-i-test.false c.requires.count p in

@@ -14,4 +14,4 @@ placed ss text at line from count l f n =
 
 pub returns : goal.returns
 returns c =
-    placed (starts_of c.args.self.now) c.args.text.now c.args.pos c.line-of-line.result c.start-of-from.result c.count-characters.result c.line-of-line.ensures.count c.start-of-from.ensures c.count-characters.ensures.value
+    placed (starts_of c.args.self.now) c.args.text.now c.args.pos c.line_of-line.result c.start_of-from.result c.count_characters.result c.line_of-line.ensures.count c.start_of-from.ensures c.count_characters.ensures.value

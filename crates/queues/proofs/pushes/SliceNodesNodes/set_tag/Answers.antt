@@ -6,12 +6,15 @@ use Rattle.queues.specs.Records.{depths}
 use Rattle.queues.proofs.Kept.{retag_front, retag_past, retag_depths}
 use Rattle.queues.proofs.pushes.SliceNodesNodes.set_tag.Goals as goal
 
-pub invariant-of-self : goal.invariant-of-self
-invariant-of-self g c =
+pub invariant_of-self : goal.invariant_of-self
+invariant_of-self g c =
     let t = c.args.self.now in
     let xs = t.nodes.now in
     let d = c.index-self-i.result in
-    (omega (arith, t.within, length-set xs c.args.i (with_tag (get_or xs c.args.i d) c.args.tag)), (t.known ∙ sym (ap unlawful (ap depths (retag_front xs t.len c.args.i d c.args.tag c.if-i-self.true t.within) ∙ retag_depths (take t.len xs) c.args.i c.args.tag)), tt))
+    record {
+      within = omega (arith, t.within, length-set xs c.args.i (with_tag (get_or xs c.args.i d) c.args.tag));
+      known = t.known ∙ sym (ap unlawful (ap depths (retag_front xs t.len c.args.i d c.args.tag c.if-i-self.true t.within) ∙ retag_depths (take t.len xs) c.args.i c.args.tag));
+    }
 
 pub returns-then-i-self : goal.returns-then-i-self
 returns-then-i-self g c =
