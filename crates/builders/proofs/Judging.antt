@@ -1,11 +1,11 @@
 -- From what the checks say to what the build answers, and the laws of builds.
-use Rattle.std.proofs.Common.{◌≡◌, ℕ, ◌*◌, ◌<◌, ◌≤◌, true, false, cond, not, ◌&&◌, ltb, leb, List, [], ◌∷◌, map, length, get_or, is_some, Some, None, Ok, Err, Option, Result, sym, refl, ap, ◌∙◌, subst, inl, inr, arith}
+use Rattle.std.proofs.Common.{◌≡◌, ℕ, ◌*◌, ◌<◌, ◌≤◌, true, cond, not, ◌&&◌, ltb, leb, List, [], ◌∷◌, map, length, get_or, is_some, Some, None, Ok, Err, Option, Result, sym, refl, ap, ◌∙◌, subst, arith}
 use Rattle.std.proofs.lemmas.List.{length-map}
-use Rattle.std.proofs.lemmas.Bool.Decides.{nat_tests, leb_tells}
+use Rattle.std.proofs.lemmas.Bool.Decides.{nat_tests}
 use Rattle.text.specs.declared.faults.TextFault.{TextFault}
 use Rattle.text.proofs.Lawful.{one_verdict}
 use Rattle.queues.specs.declared.records.Node.{Node}
-use Rattle.queues.specs.Forests.{Forest, Row, listed, pairs, tokens}
+use Rattle.queues.specs.Forests.{Forest, Row, listed, tokens}
 use Rattle.queues.specs.Lawful.{Lawful, unlawful}
 use Rattle.queues.specs.Records.{Carried, depths, row_of, rows}
 use Rattle.queues.specs.Writes.{Lists, writable}

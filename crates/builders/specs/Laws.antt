@@ -1,5 +1,5 @@
 -- What holds of every list of nodes, of every forest and of every build.
-use Rattle.std.specs.Prelude.{◌≡◌, ℕ, ◌*◌, ◌<◌, ◌≤◌, List, map, length, Result, slice_index}
+use Rattle.std.specs.Prelude.{◌≡◌, ℕ, ◌*◌, ◌<◌, ◌≤◌, List, length, Result, slice_index}
 use Rattle.queues.specs.declared.records.Node.{Node}
 use Rattle.queues.specs.Forests.{Forest, pairs, tokens}
 use Rattle.queues.specs.Lawful.{Lawful}

@@ -7,7 +7,7 @@ pub mod builds;
 mod checks;
 mod closes;
 pub mod faults;
-mod queues;
 mod tags;
+mod writing;
 
 pub use builder::PairsBuilder;

@@ -1,7 +1,7 @@
 -- The line and the column of an offset are those at the end of the bytes before it, which one pass over them counts.
-use Rattle.std.proofs.Common.{◌≡◌, ℕ, zero, suc, ◌+◌, ◌-◌, ◌<◌, ◌≤◌, min, Bool, true, false, cond, List, [], ◌∷◌, ◌++◌, length, get_or, take, drop, sym, refl, ap, ◌∙◌, subst, inl, inr, arith}
+use Rattle.std.proofs.Common.{◌≡◌, ℕ, zero, suc, ◌+◌, ◌-◌, ◌<◌, ◌≤◌, min, Bool, true, false, cond, List, [], ◌∷◌, ◌++◌, length, get_or, take, drop, sym, refl, ap, ◌∙◌, inl, inr, arith}
 use Rattle.std.specs.List.{between}
-use Rattle.std.proofs.lemmas.List.{append_assoc, drop_all, drop-append-le, drop-take, get_or_append_left, get_or-append_right, get_or_push, length-append, length_push, length-take, length-take-le, take_all, take-append-drop}
+use Rattle.std.proofs.lemmas.List.{drop_all, drop-append-le, drop-take, get_or_append_left, get_or-append_right, get_or_push, length-append, length_push, length-take, length-take-le, take_all, take-append-drop}
 use Rattle.std.proofs.lemmas.List.Sums.{sum_by-append}
 use Rattle.std.proofs.lemmas.Bool.Decides.{leb_tells}
 use Rattle.text.specs.Characters.{begins, characters}

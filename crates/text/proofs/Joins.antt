@@ -1,10 +1,10 @@
 -- Splits one after the other, and the longest split of a text after one of its fronts.
-use Rattle.std.proofs.Common.{◌≡◌, ℕ, ◌+◌, ◌-◌, ◌<◌, ◌≤◌, ◌⊎◌, List, [], ◌∷◌, ◌++◌, length, get_or, take, drop, sym, refl, ap, ◌∙◌, subst, inl, inr, suc-add, zero-add, arith}
+use Rattle.std.proofs.Common.{◌≡◌, ℕ, ◌+◌, ◌-◌, ◌≤◌, ◌⊎◌, List, [], ◌∷◌, ◌++◌, length, get_or, take, drop, sym, refl, ap, ◌∙◌, subst, inl, inr, suc-add, zero-add, arith}
 use Rattle.std.specs.List.{flat_map, AllByRecursion as All}
 use Rattle.std.proofs.ByRecursion.{All-append}
-use Rattle.std.proofs.lemmas.List.{length-append, length-take-le, take-append-drop, take_all, append_assoc, append-nil, append_cancel_left, take_at, drop_at}
+use Rattle.std.proofs.lemmas.List.{length-append, length-take-le, take-append-drop, append_assoc, append-nil, append_cancel_left, take_at}
 use Rattle.text.specs.Table.{Sequence}
-use Rattle.text.specs.Splits.{Splits, WellFormed, Longest, Front, FrontsNone, Skipped, Passed}
+use Rattle.text.specs.Splits.{WellFormed, Longest, Front, FrontsNone, Skipped, Passed}
 use Rattle.text.proofs.Shapes.{led, parts, length_led}
 
 pub split_nil : WellFormed []

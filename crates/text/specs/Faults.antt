@@ -1,5 +1,4 @@
 -- The number and the place of each refusal of a text.
-use Rattle.std.specs.Prelude.{ℕ}
 use Rattle.text.specs.declared.refusals.Refusal.{Refusal}
 use Rattle.text.specs.declared.faults.TooLong.{TooLong}
 use Rattle.text.specs.declared.faults.TextFault.{TextFault}

@@ -1,7 +1,6 @@
-use Rattle.std.proofs.Common.{◌≡◌, ℕ, ◌+◌, true, false, cond, [], ◌∷◌, ◌++◌, length, get_or, take, sym, refl, ap, ◌∙◌, arith}
+use Rattle.std.proofs.Common.{◌≡◌, ℕ, ◌+◌, cond, [], ◌∷◌, ◌++◌, length, get_or, take, sym, ap, ◌∙◌, arith}
 use Rattle.std.proofs.lemmas.List.{take_all, take_more}
 use Rattle.text.specs.Characters.{begins}
-use Rattle.lines.specs.LineCols.{line_col}
 use Rattle.lines.specs.Starts.{starts}
 use Rattle.lines.proofs.Reading.{last_line, line_feed_lem, line_goes, line_col_front}
 use Rattle.lines.proofs.reads.read_line_col.Goals as goal

@@ -1,4 +1,4 @@
-use Rattle.std.proofs.Common.{◌≡◌, true, false, take, sym, ap, ◌∙◌, arith}
+use Rattle.std.proofs.Common.{true, false, take, sym, ◌∙◌, arith}
 use Rattle.std.proofs.lemmas.List.{at_drop_all}
 use Rattle.queues.specs.Lawful.{most_after, unlawful_from}
 use Rattle.queues.specs.Records.{depths}

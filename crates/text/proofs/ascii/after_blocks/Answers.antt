@@ -1,4 +1,4 @@
-use Rattle.std.proofs.Common.{◌<◌, ◌≤◌, length, take, arith}
+use Rattle.std.proofs.Common.{◌<◌, ◌≤◌, take, arith}
 use lib.Bits.{bit_or}
 use lib.Lanes.{fold_l}
 use Rattle.std.proofs.lemmas.List.{take_rest, take-take}

@@ -1,4 +1,4 @@
-use Rattle.std.proofs.Common.{ℕ, ◌≤◌, List, length, drop, Some, None, Option, ap, arith, Bor, rules, MatchOption}
+use Rattle.std.proofs.Common.{ℕ, ◌≤◌, List, length, drop, Some, None, Option, arith, Bor, rules, MatchOption}
 use Rattle.std.proofs.lemmas.List.{length-drop, take_rest}
 use Rattle.text.specs.Splits.{Front, FrontsNone, Skipped, Passed}
 use Rattle.text.proofs.Blocks.{skipped_first}

@@ -1,6 +1,5 @@
-use Rattle.std.proofs.Common.{◌≡◌, ◌+◌, ◌-◌, ◌/◌, ◌<◌, ◌≤◌, get_or, take, drop, sym, subst, arith}
+use Rattle.std.proofs.Common.{◌+◌, ◌-◌, ◌/◌, take, drop, sym, subst, arith}
 use Rattle.lines.specs.Fills.{starts_of}
-use Rattle.lines.specs.Rising.{noted}
 use Rattle.lines.proofs.Search.{Bracket, bracket_all, bracket_low, bracket_high, upto_is, noted_entry, length-noted}
 use Rattle.lines.proofs.indexes.LineIndex.line_of.Goals as goal
 

@@ -1,4 +1,4 @@
-use Rattle.std.proofs.Common.{◌≡◌, ◌+◌, ◌<◌, length, set, sym, refl, ◌∙◌, subst, arith, rules}
+use Rattle.std.proofs.Common.{◌+◌, set, sym, refl, subst, arith, rules}
 use Rattle.std.proofs.lemmas.List.{length-set}
 use Rattle.lines.specs.Rising.{Rising}
 use Rattle.lines.proofs.Noting.{noted_none, noted_skip, noted_more, noted_room, noted_all, rising_alone, rising_starts}
@@ -15,7 +15,7 @@ pub bounds-self-n : goal.bounds-self-n
 bounds-self-n c = (noted_room c.args.self.now.line_offsets.now (omega arith) c.if-b-eq10.true c.requires.count c.requires.room c.loop-i.invariant.0).1
 
 pub invariant_of-self-then-b-eq10 : goal.invariant_of-self-then-b-eq10
-invariant_of-self-then-b-eq10 c = (omega (arith, c.loop-i.invariant.1.0), (rising_alone (set c.loop-i.self.line_offsets.now c.loop-i.n (c.loop-i.i + 1)) c.loop-i.self.more c.loop-i.invariant.1.0, tt))
+invariant_of-self-then-b-eq10 c = record { fits = omega (arith, c.loop-i.invariant.1.0); rises = rising_alone (set c.loop-i.self.line_offsets.now c.loop-i.n (c.loop-i.i + 1)) c.loop-i.self.more c.loop-i.invariant.1.0 }
 
 pub overflow_add-n : goal.overflow_add-n
 overflow_add-n c = let h = noted_room c.args.self.now.line_offsets.now (omega arith) c.if-b-eq10.true c.requires.count c.requires.room c.loop-i.invariant.0 in search rules
@@ -40,7 +40,7 @@ invariant_of-self-3 c =
     let old = c.args.self.now.line_offsets.now in
     let p = c.loop-i.invariant.0 in
     let all = noted_all old c.loop-i-test.false c.requires.count p in
-    (omega (arith, p.long, length-set old 0 0), (subst Rising (sym all.1) (rising_starts c.args.text.now), tt))
+    record { fits = omega (arith, p.long, length-set old 0 0); rises = subst Rising (sym all.1) (rising_starts c.args.text.now) }
 
 pub returns : goal.returns
 returns c =

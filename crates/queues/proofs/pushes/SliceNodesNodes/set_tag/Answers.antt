@@ -1,7 +1,7 @@
-use Rattle.std.proofs.Common.{◌≡◌, get_or, take, sym, ap, ◌∙◌, arith}
+use Rattle.std.proofs.Common.{get_or, take, sym, ap, ◌∙◌, arith}
 use Rattle.std.proofs.lemmas.List.{length-set, length-take-le}
 use Rattle.queues.specs.Lawful.{unlawful}
-use Rattle.queues.specs.Lists.{retagged, with_tag}
+use Rattle.queues.specs.Lists.{with_tag}
 use Rattle.queues.specs.Records.{depths}
 use Rattle.queues.proofs.Kept.{retag_front, retag_past, retag_depths}
 use Rattle.queues.proofs.pushes.SliceNodesNodes.set_tag.Goals as goal

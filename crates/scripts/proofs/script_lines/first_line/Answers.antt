@@ -1,4 +1,4 @@
-use Rattle.scripts.proofs.lines.first_line.Goals as goal
+use Rattle.scripts.proofs.script_lines.first_line.Goals as goal
 use Rattle.scripts.proofs.Cuts.{filled, first-cut, first_all}
 
 pub returns-then-line-script : goal.returns-then-line-script

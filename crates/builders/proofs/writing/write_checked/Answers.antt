@@ -1,9 +1,9 @@
-use Rattle.std.proofs.Common.{◌≡◌, ◌*◌, true, length, Ok, Err, sym, refl, ap, ◌∙◌, subst}
+use Rattle.std.proofs.Common.{◌≡◌, ◌*◌, true, length, Ok, sym, refl, ap, ◌∙◌, subst}
 use Rattle.std.proofs.lemmas.Result.{err_from_is_err_and}
 use Rattle.std.proofs.lemmas.Bool.Decides.{when_true}
 use Rattle.builders.specs.Builds.{Judged}
 use Rattle.builders.proofs.Judging.{refused_judged, passed_judged, passed_writable, two_tokens, build_laws}
-use Rattle.builders.proofs.queues.write_checked.Goals as goal
+use Rattle.builders.proofs.writing.write_checked.Goals as goal
 
 pub returns-in_err-check_build : goal.returns-in_err-check_build
 returns-in_err-check_build g c =
