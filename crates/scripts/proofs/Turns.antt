@@ -1,5 +1,5 @@
 -- One line of a script after another.
-use Rattle.std.proofs.Common.{◌≡◌, ℕ, ◌+◌, ◌-◌, ◌<◌, ◌≤◌, true, false, cond, eqb, ◌⊎◌, List, [], ◌∷◌, ◌++◌, length, Some, None, Ok, Err, refl, ap, inl, inr, arith}
+use Rattle.std.proofs.Common.{◌≡◌, ℕ, ◌+◌, ◌-◌, ◌<◌, ◌≤◌, true, false, cond, eqb, ◌⊎◌, List, [], ◌∷◌, length, Some, None, Ok, Err, refl, ap, inl, inr, arith}
 use Rattle.scripts.specs.Parts.{up_to, behind}
 use Rattle.scripts.specs.Lines.{lines, in_front, first_line}
 use Rattle.scripts.specs.Commands.{Order, ending, line_order}

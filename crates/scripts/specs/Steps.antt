@@ -13,7 +13,6 @@ use Rattle.scripts.specs.declared.faults.ScriptError.{ScriptError}
 use Rattle.scripts.specs.declared.faults.ScriptError.TheVariants.{Refused, NoMemory}
 use Rattle.scripts.specs.declared.faults.ScriptFault.{ScriptFault}
 use Rattle.scripts.specs.declared.faults.ScriptFault.TheVariants.{Builder, NoRule}
-use Rattle.scripts.specs.declared.numbers.Pair.{Pair}
 use Rattle.scripts.specs.declared.problems.Problem.{Problem}
 use Rattle.scripts.specs.declared.problems.Problem.TheVariants.{Fault, NoRoom}
 

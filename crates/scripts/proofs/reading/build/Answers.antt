@@ -1,4 +1,4 @@
-use Rattle.std.proofs.Common.{◌≡◌, ℕ, Ok, Err, subst}
+use Rattle.std.proofs.Common.{ℕ, Ok, Err, subst}
 use Rattle.builders.specs.Builds.{Judged}
 use Rattle.scripts.specs.Steps.{coding}
 use Rattle.scripts.proofs.Building.{coding-judged}
