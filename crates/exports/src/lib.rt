@@ -1,4 +1,4 @@
-//! The library's calls for a driver in Rust or C: numbers and byte slices alone.
+//! The library's calls as numbers and byte slices alone, for a driver in Rust or C: `exports_c` exports them.
 #![tactic(auto)]
 
 ghost use Rattle.std.specs.Prelude.{◌≡◌};
@@ -6,8 +6,7 @@ ghost use Rattle.text.specs.Verdicts.{Tested};
 ghost use Rattle.exports.specs.Numbers.{numbered};
 
 /// 0 where the text is well-formed, else the refusal's number.
-#[unsafe(no_mangle)]
-pub extern "C" fn tree_well_formed(text: &[u8]) -> u8
+pub fn tree_well_formed(text: &[u8]) -> u8
     ensures { numbered text.now result }
 {
     match text::well_formed(text) {

@@ -2,8 +2,8 @@
 #![tactic(auto)]
 
 #[cfg(test)]
-mod lines;
+mod line_columns;
 #[cfg(test)]
 mod sequences;
 #[cfg(test)]
-mod spans;
+mod sound_spans;
