@@ -1,6 +1,6 @@
 -- The laws of a script: its lines joined again, and a script that is written out read back.
 use Rattle.std.proofs.Common.{◌≡◌, ℕ, ◌+◌, ◌≤◌, false, eqb, List, [], ◌∷◌, ◌++◌, length, None, codes, Result, sym, refl, ap, ◌∙◌, inl, inr, append_assoc, append-nil, arith}
-use Rattle.std.specs.List.{flat_map, AllByRecursion as All}
+use Rattle.std.specs.List.{flat_map, AllByRecursion}
 use Rattle.std.proofs.lemmas.Bool.{cases_Bool, eqb-true}
 use Rattle.builders.specs.declared.builds.BuildFault.{BuildFault}
 use Rattle.scripts.specs.Lines.{lines, in_front}
@@ -14,11 +14,11 @@ use Rattle.scripts.proofs.Settled.{one_answer, within}
 use Rattle.scripts.proofs.Turns.{lines_step}
 
 -- no line has an LF
-in_front_lem : (b : ℕ) (ls : List (List ℕ)) → eqb b 10 ≡ false → All Unbroken ls → All Unbroken (in_front b ls)
+in_front_lem : (b : ℕ) (ls : List (List ℕ)) → eqb b 10 ≡ false → AllByRecursion Unbroken ls → AllByRecursion Unbroken (in_front b ls)
 in_front_lem b [] h all = ((h, tt), tt)
 in_front_lem b (l ∷ ls) h all = ((h, all.0), all.1)
 
-unbroken : (bs : List ℕ) → All Unbroken (lines bs)
+unbroken : (bs : List ℕ) → AllByRecursion Unbroken (lines bs)
 unbroken [] = tt
 unbroken (b ∷ bs) =
     elim (cases_Bool (eqb b 10)) [
@@ -58,7 +58,7 @@ abbrev end : List ℕ
 end = with_lf (codes "show")
 
 -- the lines of the pieces, and `show`
-said : (many size place n : ℕ) (text : List ℕ) (ps : List Piece) → All (λ p. Unbroken (piece_line p)) ps → body many size place n (drawn text [] [] 0 None) (lines (piece_lines ps ++ end)) ≡ shown (drawn (text ++ flat_map piece_text ps) [] [] 0 None) (length ps + n) None
+said : (many size place n : ℕ) (text : List ℕ) (ps : List Piece) → AllByRecursion (λ p. Unbroken (piece_line p)) ps → body many size place n (drawn text [] [] 0 None) (lines (piece_lines ps ++ end)) ≡ shown (drawn (text ++ flat_map piece_text ps) [] [] 0 None) (length ps + n) None
 said many size place n text [] h =
     let a = append-nil text in
     let z : 0 + n ≡ n = omega arith in
@@ -73,11 +73,11 @@ said many size place n text (p ∷ ps) h =
     ∙ ap (λ t. shown (drawn t [] [] 0 None) (length ps + (n + 1)) None) (append_assoc text (piece_text p) (flat_map piece_text ps))
     ∙ ap (λ m. shown (drawn (text ++ flat_map piece_text (p ∷ ps)) [] [] 0 None) m None) count
 
-kind_read : (k : Kind) (ps : List Piece) → All (λ p. Unbroken (piece_line p)) ps → started (written k ps) ≡ shown (text_of ps) (length ps + 2) None
+kind_read : (k : Kind) (ps : List Piece) → AllByRecursion (λ p. Unbroken (piece_line p)) ps → started (written k ps) ≡ shown (text_of ps) (length ps + 2) None
 kind_read Plant ps h = said 12 (length (written Plant ps)) 6 2 [] ps h
 kind_read Grammar ps h = said 65536 (length (written Grammar ps)) 8 2 [] ps h
 
-round_trip : (script : List ℕ) (k : Kind) (ps : List Piece) → script ≡ written k ps → All (λ p. Unbroken (piece_line p)) ps → length script ≤ script_limit → (built : Result ℕ BuildFault) → Built (text_of ps) built → Means script (judged (text_of ps) (length ps + 2) None built)
+round_trip : (script : List ℕ) (k : Kind) (ps : List Piece) → script ≡ written k ps → AllByRecursion (λ p. Unbroken (piece_line p)) ps → length script ≤ script_limit → (built : Result ℕ BuildFault) → Built (text_of ps) built → Means script (judged (text_of ps) (length ps + 2) None built)
 round_trip script k ps is all small built tested =
     let o : outcome script ≡ shown (text_of ps) (length ps + 2) None = within script small ∙ ap started is ∙ kind_read k ps all in
     rw o (built, (tested, refl))

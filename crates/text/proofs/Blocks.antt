@@ -2,7 +2,7 @@
 use Rattle.std.proofs.Common.{ℕ, ◌<◌, ◌≤◌, List, [], ◌∷◌, length, get_or, take, drop, sym, refl, arith}
 use lib.Bits.{bit_or, or_add_and, and_le_l, and_le_r}
 use lib.Lanes.{fold_l}
-use Rattle.std.specs.List.{AllByRecursion as All}
+use Rattle.std.specs.List.{AllByRecursion}
 use Rattle.std.proofs.ByRecursion.{All-weaker}
 use Rattle.std.proofs.lemmas.List.{take-append-drop}
 use Rattle.text.specs.Table.{row1}
@@ -10,7 +10,7 @@ use Rattle.text.specs.Splits.{WellFormed, Skipped}
 use Rattle.text.proofs.Joins.{split_nil, split_more}
 
 -- the union of a list is no less than any of it
-union_most : (a : ℕ) (xs : List ℕ) → (a ≤ fold_l bit_or a xs) × All (λ x. x ≤ fold_l bit_or a xs) xs
+union_most : (a : ℕ) (xs : List ℕ) → (a ≤ fold_l bit_or a xs) × AllByRecursion (λ x. x ≤ fold_l bit_or a xs) xs
 union_most a [] = (omega arith, tt)
 union_most a (x ∷ xs) =
     let h = union_most (bit_or a x) xs in
@@ -18,7 +18,7 @@ union_most a (x ∷ xs) =
     let q : x ≤ bit_or a x = omega (arith, or_add_and a x, and_le_l a x) in
     (omega (arith, h.0), (omega (arith, h.0), h.1))
 
-split_ascii : (xs : List ℕ) → All (λ x. x ≤ 0x7F) xs → WellFormed xs
+split_ascii : (xs : List ℕ) → AllByRecursion (λ x. x ≤ 0x7F) xs → WellFormed xs
 split_ascii [] a = split_nil
 split_ascii (x ∷ xs) a = split_more (row1 (omega arith, a.0)) (split_ascii xs a.1)
 

@@ -1,6 +1,6 @@
 -- Splits one after the other, and the longest split of a text after one of its fronts.
 use Rattle.std.proofs.Common.{◌≡◌, ℕ, ◌+◌, ◌-◌, ◌≤◌, ◌⊎◌, List, [], ◌∷◌, ◌++◌, length, get_or, take, drop, sym, refl, ap, ◌∙◌, subst, inl, inr, suc-add, zero-add, arith}
-use Rattle.std.specs.List.{flat_map, AllByRecursion as All}
+use Rattle.std.specs.List.{flat_map, AllByRecursion}
 use Rattle.std.proofs.ByRecursion.{All-append}
 use Rattle.std.proofs.lemmas.List.{length-append, length-take-le, take-append-drop, append_assoc, append-nil, append_cancel_left, take_at}
 use Rattle.text.specs.Table.{Sequence}
@@ -36,7 +36,7 @@ same_first {s} {s'} {t} {t'} q q' e =
     (same, append_cancel_left s t t' (e ∙ ap (λ y. y ++ t') (sym same)))
 
 -- the longest split after a front that splits: what m bytes split is the front's sequences and then some of the rest's
-longest_after : (ss : List (List ℕ)) → All Sequence ss → (t : List ℕ) (n : ℕ) → Longest t n → (m : ℕ) → m ≤ length (flat_map (λ x. x) ss ++ t) → WellFormed (take m (flat_map (λ x. x) ss ++ t)) → m ≤ length (flat_map (λ x. x) ss) + n
+longest_after : (ss : List (List ℕ)) → AllByRecursion Sequence ss → (t : List ℕ) (n : ℕ) → Longest t n → (m : ℕ) → m ≤ length (flat_map (λ x. x) ss ++ t) → WellFormed (take m (flat_map (λ x. x) ss ++ t)) → m ≤ length (flat_map (λ x. x) ss) + n
 longest_after [] a t n l m h w = omega (arith, l.last m h w)
 longest_after (s ∷ ss) a t n l m h w =
     elim (begun w) [

@@ -6,7 +6,7 @@ use Rattle.std.proofs.lemmas.Bool.Decides.{nat_tests}
 use Rattle.text.specs.declared.faults.TextFault.{TextFault}
 use Rattle.text.specs.declared.faults.TextFault.TheVariants.{Long, Malformed}
 use Rattle.text.specs.Verdicts.{Tested}
-use Rattle.std.specs.List.{flat_map, AllByRecursion as All}
+use Rattle.std.specs.List.{flat_map, AllByRecursion}
 use Rattle.text.specs.Characters.{characters, begins}
 use Rattle.text.specs.Table.{Sequence, row1, row2, row3, row4, row5, row6, row7, row8, row9}
 use Rattle.text.specs.Splits.{Splits, WellFormed, Longest}
@@ -19,7 +19,7 @@ use Rattle.text.proofs.Unicode.{to_utf8, from_utf8}
 never_empty : {s : List ℕ} → Sequence s → (t : List ℕ) → s ++ t ≡ [] → ⊥
 never_empty {s} q t e = let p = parts q t in omega (arith, p.some, p.long, ap length e)
 
-one_way : (ss ts : List (List ℕ)) → All Sequence ss → All Sequence ts → flat_map (λ x. x) ss ≡ flat_map (λ x. x) ts → ss ≡ ts
+one_way : (ss ts : List (List ℕ)) → AllByRecursion Sequence ss → AllByRecursion Sequence ts → flat_map (λ x. x) ss ≡ flat_map (λ x. x) ts → ss ≡ ts
 one_way [] [] a b e = refl
 one_way [] (t ∷ ts) a b e = absurd (never_empty b.0 (flat_map (λ x. x) ts) (sym e))
 one_way (s ∷ ss) [] a b e = absurd (never_empty a.0 (flat_map (λ x. x) ss) e)
@@ -40,7 +40,7 @@ one_character (row7 p q r u) = grind (arith, nat_tests)
 one_character (row8 p q r u) = grind (arith, nat_tests)
 one_character (row9 p q r u) = grind (arith, nat_tests)
 
-counted_joined : (ss : List (List ℕ)) → All Sequence ss → length ss ≡ characters (flat_map (λ x. x) ss)
+counted_joined : (ss : List (List ℕ)) → AllByRecursion Sequence ss → length ss ≡ characters (flat_map (λ x. x) ss)
 counted_joined [] a = refl
 counted_joined (s ∷ ss) a = omega (arith, counted_joined ss a.1, one_character a.0, sum_by-append (λ b. cond (begins b) 1 0) s (flat_map (λ x. x) ss))
 
