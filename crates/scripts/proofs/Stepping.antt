@@ -145,9 +145,9 @@ tag_refused f ns ns' to t u rest g is h = by_fault (tag_fault to u (coding f ns)
     of None (Some n) h = let e = h.0 in let z : ◌≡◌ {A = ℕ} 0 1 = cc in absurd (omega arith)
     of (Some k) n h = let e = h.0 in cc
 
-tag_fits : {R : Type 0} (o : Option BuilderFault) (ns ns' : List (Node R)) (to : Option ℕ) (t : Tag) → Tagged o to t ns ns' (Ok tt) → o ≡ None
-tag_fits None ns ns' to t h = refl
-tag_fits (Some k) ns ns' to t h = let e = h.0 in let z : ◌≡◌ {A = ℕ} 0 1 = cc in absurd (omega arith)
+tag_fits_lem : {R : Type 0} (o : Option BuilderFault) (ns ns' : List (Node R)) (to : Option ℕ) (t : Tag) → Tagged o to t ns ns' (Ok tt) → o ≡ None
+tag_fits_lem None ns ns' to t h = refl
+tag_fits_lem (Some k) ns ns' to t h = let e = h.0 in let z : ◌≡◌ {A = ℕ} 0 1 = cc in absurd (omega arith)
 
 tag_set : {R : Type 0} (f : R → ℕ) (o : Option BuilderFault) (ns ns' : List (Node R)) (to : Option ℕ) (t : Tag) → o ≡ None → Tagged o to t ns ns' (Ok tt) → coding f ns' ≡ labelled to t (coding f ns)
 tag_set f (Some k) ns ns' to t e h = let z : ◌≡◌ {A = ℕ} 0 1 = cc in absurd (omega arith)
@@ -156,7 +156,7 @@ tag_set f None ns ns' (Some n) t e h = ap (coding f) h.1 ∙ coding-retagged f n
 
 pub tag_done : {R : Type 0} (f : R → ℕ) (ns ns' : List (Node R)) (codes depth : ℕ) (to : Option ℕ) (t : Tag) (text labels labels' bytes : List ℕ) → t ≡ record { place = length labels; length = length bytes } → labels' ≡ labels ++ bytes → Tagged (tag_fault to t ns) to t ns ns' (Ok tt) → stepped codes (tags bytes) (drawn text labels (coding f ns) depth to) ≡ Ok (drawn text labels' (coding f ns') depth to)
 tag_done f ns ns' codes depth to t text labels labels' bytes is more h =
-    let none : tag_fault to t ns ≡ None = tag_fits (tag_fault to t ns) ns ns' to t h in
+    let none : tag_fault to t ns ≡ None = tag_fits_lem (tag_fault to t ns) ns ns' to t h in
     let set : coding f ns' ≡ labelled to t (coding f ns) = tag_set f (tag_fault to t ns) ns ns' to t none h in
     ap (λ (u : Tag). refusing (tag_fault to u (coding f ns)) (Ok (drawn text (labels ++ bytes) (labelled to u (coding f ns)) depth to))) (sym is)
     ∙ ap (λ o. refusing o (Ok (drawn text (labels ++ bytes) (labelled to t (coding f ns)) depth to))) (tag_same f to t ns ∙ none)
