@@ -1,4 +1,4 @@
-//! The text test beside Rust's `from_utf8`, on 1 MiB of one-, two- and three-byte text. See docs/speed.md.
+//! The text test beside Rust's `from_utf8`, on 1 MiB of one-, two-, three- and four-byte text. See docs/speed.md.
 use std::hint::black_box;
 use std::time::Instant;
 

@@ -1,9 +1,10 @@
 -- The line starts of a part and of the bytes after it.
-use Rattle.std.proofs.Common.{◌≡◌, ℕ, zero, suc, ◌+◌, ◌<◌, ◌≤◌, Bool, true, false, cond, List, [], ◌∷◌, ◌++◌, length, get_or, take, drop, set, Some, None, Ok, count_by, sym, refl, ap, ◌∙◌, subst, add-zero, arith, eq-eqb, ne_eqb}
+use Rattle.std.proofs.Common.{◌≡◌, ℕ, zero, suc, ◌+◌, ◌<◌, ◌≤◌, Bool, true, false, cond, List, [], ◌∷◌, ◌++◌, length, get_or, take, drop, set, Some, None, Ok, count_by, sym, refl, ap, ◌∙◌, add-zero, arith, eq-eqb, ne_eqb}
 use Rattle.std.proofs.lemmas.List.{append_assoc, append-nil, drop_more, drop-set-lt, take_all, length_push, length-set, length-take-le, set_at, take_at, take_more, take-append-drop}
-use Rattle.std.proofs.lemmas.List.Sums.{count_by_more_yes, sum_by-append}
+use Rattle.std.proofs.lemmas.List.Sums.{count_by_more_yes, sum_by-append, sum_by-cons}
 use Rattle.std.proofs.lemmas.Bool.Decides.{nat_tests}
-use Rattle.lines.specs.Rising.{Rising, noted}
+use Rattle.std.specs.List.Sorted.{IsStrictlyIncreasing}
+use Rattle.lines.specs.Noted.{noted}
 use Rattle.text.specs.Limits.{limited}
 use Rattle.lines.specs.declared.faults.LineFault.TheVariants.{Short}
 use Rattle.lines.specs.Fills.{over, fill_fault}
@@ -36,18 +37,15 @@ length-cond false x xs = omega arith
 pub length-after : (i : ℕ) (xs : List ℕ) → length (after i xs) ≡ count_by line_feed xs
 length-after i [] = refl
 length-after i (x ∷ xs) =
-    let e : length (after i (x ∷ xs)) ≡ cond (line_feed x) 1 0 + length (after (i + 1) xs) = length-cond (line_feed x) (i + 1) (after (i + 1) xs) in
-    omega (arith, e, length-after (i + 1) xs, sum_by-append (λ b. cond (line_feed b) 1 0) (x ∷ []) xs)
+    length-cond (line_feed x) (i + 1) (after (i + 1) xs)
+    ∙ ap (λ n. cond (line_feed x) 1 0 + n) (length-after (i + 1) xs)
+    ∙ sym (sum_by-cons (λ b. cond (line_feed b) 1 0) x xs)
 
 -- after the first i bytes: their starts at the front of the buffer, and the rest of it as it was
 pub record Noted (text : List ℕ) (i n : ℕ) (old buffer : List ℕ) : Type 0 where
   pub count : n ≡ length (starts (take i text))
   pub holds : buffer ≡ starts (take i text) ++ drop n old
   pub long : length buffer ≡ length old
-
-pub noted_none : (text old : List ℕ) → 0 < length old → Noted text 0 1 (set old 0 0) (set old 0 0)
-noted_none text [] h = absurd (omega arith)
-noted_none text (x ∷ old) h = record { count = refl; holds = refl; long = refl }
 
 pub noted_skip : (text : List ℕ) (i n : ℕ) (old buffer : List ℕ) → i < length text → (get_or text i 0 ≡ 10 → ⊥) → Noted text i n old buffer → Noted text (i + 1) n old buffer
 noted_skip text i n old buffer l h p =
@@ -89,31 +87,28 @@ noted_all {text} {i} {n} old {buffer} {later} l k p =
 -- above m, and rising
 pub record Above (m : ℕ) (xs : List ℕ) : Type 0 where
   pub above : (k : ℕ) → k < length xs → m < get_or xs k 0
-  pub rises : Rising xs
+  pub rises : IsStrictlyIncreasing xs
 
 above_at : (m x : ℕ) (xs : List ℕ) → m < x → Above x xs → (k : ℕ) → k < length (x ∷ xs) → m < get_or (x ∷ xs) k 0
 above_at m x xs h a zero l = h
 above_at m x xs h a (suc k) l = omega (arith, a.above k (omega arith))
 
-rises_cons : (x : ℕ) (xs : List ℕ) → Above x xs → Rising (x ∷ xs)
-rises_cons x xs a j zero l f = absurd (omega arith)
-rises_cons x xs a zero (suc k) l f = a.above k (omega arith)
-rises_cons x xs a (suc j) (suc k) l f = a.rises j k (omega arith) (omega arith)
+rises_cons : (x : ℕ) (xs : List ℕ) → Above x xs → IsStrictlyIncreasing (x ∷ xs)
+rises_cons x xs a zero l = a.above 0 (omega arith)
+rises_cons x xs a (suc k) l =
+    let e : suc k + 1 ≡ suc (k + 1) = omega arith in
+    rw e (a.rises k (omega arith))
 
 above_cond : (i : ℕ) (t : Bool) (xs : List ℕ) → Above (i + 1) xs → Above i (cond t ((i + 1) ∷ xs) xs)
 above_cond i true xs a = record { above = above_at i (i + 1) xs (omega arith) a; rises = rises_cons (i + 1) xs a }
 above_cond i false xs a = record { above = λ k l. omega (arith, a.above k l); rises = a.rises }
 
 pub above_after : (i : ℕ) (xs : List ℕ) → Above i (after i xs)
-above_after i [] = record { above = λ k l. absurd (omega arith); rises = λ j k l f. absurd (omega arith) }
+above_after i [] = record { above = λ k l. absurd (omega arith); rises = λ k l. absurd (omega arith) }
 above_after i (b ∷ xs) = above_cond i (line_feed b) (after (i + 1) xs) (above_after (i + 1) xs)
 
-pub rising_starts : (text : List ℕ) → Rising (starts text)
+pub rising_starts : (text : List ℕ) → IsStrictlyIncreasing (starts text)
 rising_starts text = rises_cons 0 (after 0 text) (above_after 0 text)
-
--- 0 alone rises, whatever the buffer
-pub rising_alone : (buffer : List ℕ) (more : ℕ) → more ≡ 0 → Rising (noted buffer more)
-rising_alone buffer more e = subst (λ m. Rising (noted buffer m)) (sym e) (λ i j h l. absurd (omega arith))
 
 -- what the two tests of a fill tell
 pub fault_short : (text buffer : List ℕ) (later : ℕ) → limited text ≡ Ok tt → later ≡ count_by line_feed text → length buffer ≤ later → fill_fault text buffer ≡ Some (Short (later + 1))

@@ -1,13 +1,12 @@
--- The line and the column of an offset are those at the end of the bytes before it, which one pass over them counts.
-use Rattle.std.proofs.Common.{◌≡◌, ℕ, zero, suc, ◌+◌, ◌-◌, ◌<◌, ◌≤◌, min, Bool, true, false, cond, List, [], ◌∷◌, ◌++◌, length, get_or, take, drop, sym, refl, ap, ◌∙◌, inl, inr, arith}
+-- The line and the column of an offset are those at the end of the bytes before it: as many LFs, and the characters after the last.
+use Rattle.std.proofs.Common.{◌≡◌, ℕ, zero, suc, ◌+◌, ◌-◌, ◌<◌, ◌≤◌, min, Bool, true, false, cond, List, [], ◌∷◌, ◌++◌, length, get_or, take, drop, sym, refl, ap, ◌∙◌, inl, inr, arith, ne_eqb}
 use Rattle.std.specs.List.{between}
-use Rattle.std.proofs.lemmas.List.{drop_all, drop-append-le, drop-take, get_or_append_left, get_or-append_right, get_or_push, length-append, length_push, length-take, length-take-le, take_all, take-append-drop}
-use Rattle.std.proofs.lemmas.List.Sums.{sum_by-append}
+use Rattle.std.proofs.lemmas.List.{append-nil, drop_all, drop-take, get_or-drop, get_or_append_left, get_or-append_right, get_or_push, length-append, length_push, length-drop, length-take, length-take-le, take_all, take-append-drop, take_more}
 use Rattle.std.proofs.lemmas.Bool.Decides.{leb_tells}
-use Rattle.text.specs.Characters.{begins, characters}
+use Rattle.text.specs.Characters.{characters}
 use Rattle.lines.specs.LineCols.{upto, line_col}
 use Rattle.lines.specs.Starts.{line_feed, after, starts}
-use Rattle.lines.proofs.Noting.{above_after, after-append, starts_skip, starts_note}
+use Rattle.lines.proofs.Noting.{above_after, after-append, starts_note}
 use Rattle.lines.proofs.Search.{upto_is}
 
 -- the last line start of bytes, and the characters after it
@@ -33,24 +32,6 @@ starts_most p (suc k) l = omega (arith, after_most 0 p k (omega arith))
 
 pub last_most : (p : List ℕ) → last_start p ≤ length p
 last_most p = starts_most p (length (starts p) - 1) (omega arith)
-
--- one byte more: after an LF a new line begins
-pub line_feed_lem : (p : List ℕ) (b : ℕ) → b ≡ 10 → (length (starts (p ++ b ∷ [])) ≡ length (starts p) + 1) × (last_line (p ++ b ∷ []) ≡ 0)
-line_feed_lem p b h =
-    let s = starts p in
-    let e = starts_note p b h in
-    let k : length (s ++ (length p + 1) ∷ []) - 1 ≡ length s = omega (arith, length_push s (length p + 1)) in
-    let last : last_start (p ++ b ∷ []) ≡ length p + 1 = ap (λ z. get_or z (length z - 1) 0) e ∙ get_or_push s (length p + 1) 0 (length (s ++ (length p + 1) ∷ []) - 1) (sym k) in
-    let past : length (p ++ b ∷ []) ≤ last_start (p ++ b ∷ []) = omega (arith, length_push p b) in
-    (ap length e ∙ length_push s (length p + 1), ap characters (drop_all (last_start (p ++ b ∷ [])) (p ++ b ∷ []) past))
-
--- else the line goes on
-pub line_goes : (p : List ℕ) (b : ℕ) → (b ≡ 10 → ⊥) → (length (starts (p ++ b ∷ [])) ≡ length (starts p)) × (last_line (p ++ b ∷ []) ≡ last_line p + cond (begins b) 1 0)
-line_goes p b h =
-    let e = starts_skip p b h in
-    let last : last_start (p ++ b ∷ []) ≡ last_start p = ap (λ z. get_or z (length z - 1) 0) e in
-    let cut : drop (last_start (p ++ b ∷ [])) (p ++ b ∷ []) ≡ drop (last_start p) p ++ b ∷ [] = ap (λ n. drop n (p ++ b ∷ [])) last ∙ drop-append-le (last_start p) p (b ∷ []) (last_most p) in
-    (ap length e, ap characters cut ∙ (let f = sum_by-append (λ x. cond (begins x) 1 0) (drop (last_start p) p) (b ∷ []) in omega (arith, f)))
 
 -- the starts at or before an offset are those of the bytes before it
 module _ (text : List ℕ) (at : ℕ) where
@@ -93,6 +74,28 @@ module _ (text : List ℕ) (at : ℕ) where
   line_col_front =
       let e : characters (between (get_or (starts text) (upto at (starts text) - 1) 0) at text) ≡ last_line front = ap (λ n. characters (between n at text)) last_front ∙ ap characters between_front in
       (λ i. (upto_front i, 1 + e i))
+
+-- without an LF no line starts after the first
+after_none : (i : ℕ) (xs : List ℕ) → ((k : ℕ) → k < length xs → get_or xs k 0 ≡ 10 → ⊥) → after i xs ≡ []
+after_none i [] h = refl
+after_none i (x ∷ xs) h = rw (ne_eqb x 10 (h 0 (omega arith))) (after_none (i + 1) xs (λ k l. h (suc k) (omega arith)))
+
+last_cut : (p : List ℕ) (n : ℕ) → n ≤ length p → ((k : ℕ) → n ≡ k + 1 → get_or p k 0 ≡ 10) → last_start (take n p) ≡ n
+last_cut p zero l h = refl
+last_cut p (suc k) l h =
+    let q = take k p in
+    let one : suc k ≡ k + 1 = omega arith in
+    let long : length q ≡ k = length-take-le k p (omega arith) in
+    let e : starts (take (suc k) p) ≡ starts q ++ (length q + 1) ∷ [] = ap (λ n. starts (take n p)) one ∙ ap starts (take_more p k 0 (omega arith)) ∙ starts_note q (get_or p k 0) (h k one) in
+    let s = starts q ++ (length q + 1) ∷ [] in
+    ap (λ z. get_or z (length z - 1) 0) e ∙ get_or_push (starts q) (length q + 1) 0 (length s - 1) (omega (arith, length_push (starts q) (length q + 1))) ∙ omega arith
+
+-- the last line starts after the last LF, or at 0
+pub last_start_is : (p : List ℕ) (n : ℕ) → n ≤ length p → ((k : ℕ) → n ≡ k + 1 → get_or p k 0 ≡ 10) → ((k : ℕ) → n ≤ k → k < length p → get_or p k 0 ≡ 10 → ⊥) → last_start p ≡ n
+last_start_is p n l h a =
+    let none : after (0 + length (take n p)) (drop n p) ≡ [] = after_none _ (drop n p) (λ k i e. a (n + k) (omega arith) (omega (arith, length-drop n p)) (sym (get_or-drop n p k 0) ∙ e)) in
+    let e : starts p ≡ starts (take n p) = split_starts p n ∙ ap (λ ys. starts (take n p) ++ ys) none ∙ append-nil (starts (take n p)) in
+    ap (λ z. get_or z (length z - 1) 0) e ∙ last_cut p n l h
 
 -- reading the bytes before an offset, as far as there are any, gives its line and column
 pub line_col_cut : (text : List ℕ) (at n : ℕ) → n ≡ min (length text) at → line_col (take n text) (length (take n text)) ≡ line_col text at

@@ -1,11 +1,13 @@
 -- What filling a line table does.
-use Rattle.std.specs.Prelude.{◌≡◌, ℕ, ◌<◌, ◌≤◌, cond, List, ◌++◌, length, drop, Some, None, Ok, Err, count_by, Option, Result, nat_lt}
-use Rattle.text.specs.declared.faults.TooLong.{TooLong}
+use Rattle.std.specs.Prelude.{◌≡◌, ℕ, ◌<◌, ◌≤◌, if◌then◌else◌, List, ◌++◌, length, drop, Some, None, count_by, OnErr, Option, Result, nat_lt}
+use Rattle.std.specs.Option.{option_map, option_or}
+use Rattle.std.specs.Result.{result_err}
 use Rattle.text.specs.Limits.{limited, text_limit}
+use Rattle.text.specs.Refusing.{Answers}
 use Rattle.lines.specs.declared.faults.LineFault.{LineFault}
 use Rattle.lines.specs.declared.faults.LineFault.TheVariants.{Long, Short}
 use Rattle.lines.specs.declared.indexes.LineIndex.{LineIndex}
-use Rattle.lines.specs.Rising.{noted}
+use Rattle.lines.specs.Noted.{noted}
 use Rattle.lines.specs.Starts.{line_feed, starts}
 
 -- the line starts of a table
@@ -16,24 +18,28 @@ starts_of t = noted t.line_offsets.now t.more
 abbrev pub over : List ℕ → List ℕ → List ℕ
 over text buffer = starts text ++ drop (length (starts text)) buffer
 
--- the limit's refusal, else the buffer's where it is shorter than needed
-abbrev pub fault_by : Result (Unit {0}) TooLong → ℕ → ℕ → Option LineFault
-fault_by (Err f) room needed = Some (Long f)
-fault_by (Ok _) room needed = cond (nat_lt room needed) (Some (Short needed)) None
+-- a buffer shorter than needed
+abbrev pub room_fault : ℕ → ℕ → Option LineFault
+room_fault room needed = if nat_lt room needed then Some (Short needed) else None
 
+-- the limit's refusal, else the buffer's
 abbrev pub fill_fault : List ℕ → List ℕ → Option LineFault
-fill_fault text buffer = fault_by (limited text) (length buffer) (length (starts text))
+fill_fault text buffer =
+    option_or (option_map Long (result_err (limited text))) (room_fault (length buffer) (length (starts text)))
 
 -- there is room in the table's buffer: the starts after the first, as many as LFs, fit behind it
 abbrev pub Roomed : List ℕ → LineIndex → Result ℕ LineFault → Type 0
-Roomed text t (Ok later) =
-    (fill_fault text t.line_offsets.now ≡ None)
-    × ((length text ≤ text_limit) × ((later ≡ count_by line_feed text) × (later < length t.line_offsets.now)))
-Roomed text t (Err f) = fill_fault text t.line_offsets.now ≡ Some f
+Roomed text t r =
+    Answers
+    (fill_fault text t.line_offsets.now)
+    (λ later. (length text ≤ text_limit) × ((later ≡ count_by line_feed text) × (later < length t.line_offsets.now)))
+    r
 
--- a table before and after; refused, it stays whole
+-- a table before and later; refused, it stays whole
 abbrev pub Filled : List ℕ → LineIndex → LineIndex → Result (Unit {0}) LineFault → Type 0
-Filled text before then (Ok _) =
-    (fill_fault text before.line_offsets.now ≡ None)
-    × ((starts_of then ≡ starts text) × (then.line_offsets.now ≡ over text before.line_offsets.now))
-Filled text before then (Err f) = (fill_fault text before.line_offsets.now ≡ Some f) × (then ≡ before)
+Filled text before later r =
+    Answers
+    (fill_fault text before.line_offsets.now)
+    (λ _. (starts_of later ≡ starts text) × (later.line_offsets.now ≡ over text before.line_offsets.now))
+    r
+    × OnErr r (later ≡ before)

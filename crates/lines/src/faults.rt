@@ -15,25 +15,25 @@ pub enum LineFault {
     Short { needed: u64 },
 }
 
-impl LineFault {
-    /// Number 1 at the text's length, or number 12 at the number of entries needed.
-    pub fn refusal(&self) -> Refusal
-        ensures { result ≡ line_refusal self.now }
-    {
-        match self {
-            LineFault::Long(long) => long.refusal(),
-            LineFault::Short { needed } => Refusal {
-                number: 12,
-                place: *needed,
-            },
-        }
-    }
-}
-
 impl From<TooLong> for LineFault {
     ghost from_gives = { λ e r. r ≡ Long e };
 
     fn from(e: TooLong) -> LineFault {
         LineFault::Long(e)
+    }
+}
+
+impl From<LineFault> for Refusal {
+    ghost from_gives = { λ e r. r ≡ line_refusal e };
+
+    /// Number 1 at the text's length, or number 12 at the number of entries needed.
+    fn from(e: LineFault) -> Refusal {
+        match e {
+            LineFault::Long(long) => Refusal::from(long),
+            LineFault::Short { needed } => Refusal {
+                number: 12,
+                place: needed,
+            },
+        }
     }
 }

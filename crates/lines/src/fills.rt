@@ -5,21 +5,9 @@ ghost use Rattle.lines.specs.Fills.{Filled, Roomed, over, starts_of};
 ghost use Rattle.lines.specs.Starts.{line_feed, starts};
 
 use crate::faults::LineFault;
+use crate::feeds::count_line_feeds;
 use crate::indexes::LineIndex;
 use text::within_limit;
-
-fn count_line_feeds(text: &[u8]) -> usize
-    ensures value { result ≡ count_by line_feed text.now }
-    ensures bound { result ≤ length text.now }
-{
-    let mut n: usize = 0;
-    for b in text {
-        if *b == b'\n' {
-            n += 1;
-        }
-    }
-    n
-}
 
 impl<'b> LineIndex<'b> {
     // How many starts of the text come after the first; refused where the buffer has no room for them all.
@@ -48,6 +36,7 @@ impl<'b> LineIndex<'b> {
         // the table is 0 alone while its buffer changes
         self.more = 0;
         self.line_offsets[0] = 0;
+        // n, the next free entry, by hand: of `zip` over the entries the prover says "the borrow checker does not cover" it yet
         let mut n: usize = 1;
         for (i, b) in text.iter().enumerate() {
             if *b == b'\n' {

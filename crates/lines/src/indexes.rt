@@ -1,15 +1,17 @@
 //! The table of line starts.
 ghost use Rattle.std.specs.Prelude.{◌≡◌, ◌-◌, ◌≤◌, length};
-ghost use Rattle.lines.specs.Rising.{Rising, noted};
+ghost use Rattle.std.specs.List.Sorted.{IsStrictlyIncreasing};
+ghost use Rattle.lines.specs.Noted.{noted};
 
 /// Where the lines of a text begin: 0 and then rising, in a buffer that the caller lends.
+// A lent buffer with a count: nothing here may take memory of its own. No equality: past the count it is no part of the table.
 #[derive(Drop)]
 pub struct LineIndex<'b> {
     pub(crate) line_offsets: &'b mut [u32],
     // how many lines begin after the first, which begins at 0 whatever the buffer holds
     pub(crate) more: usize,
     ghost fits: { more ≤ length line_offsets.now - 1 },
-    ghost rises: { Rising (noted line_offsets.now more) },
+    ghost rises: { IsStrictlyIncreasing (noted line_offsets.now more) },
 }
 
 impl<'b> LineIndex<'b> {

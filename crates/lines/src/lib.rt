@@ -2,6 +2,7 @@
 #![tactic(auto)]
 
 pub mod faults;
+mod feeds;
 mod fills;
 pub mod indexes;
 mod looks;

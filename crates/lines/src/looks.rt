@@ -1,5 +1,5 @@
 //! Lines and columns by a table.
-ghost use Rattle.std.specs.Prelude.{◌≡◌, ◌-◌, ◌<◌, ◌≤◌, length, slice_index};
+ghost use Rattle.std.specs.Prelude.{◌≡◌, ◌-◌, ◌<◌, ◌≤◌, length, drop, slice_index, take};
 ghost use Rattle.lines.specs.Fills.{starts_of};
 ghost use Rattle.lines.specs.LineCols.{line_col_by, upto};
 ghost use Rattle.lines.specs.Looks.{looked_up, read_at};
@@ -10,24 +10,21 @@ use spans::faults::SpanFault;
 use spans::{Span, count_characters};
 
 impl<'b> LineIndex<'b> {
-    // How many of the starts are at or before `pos`, by halving the part in which the last of them lies.
+    // The noted starts after the first.
+    fn later(&self) -> &[u32]
+        ensures { result.now ≡ take self.now.more (drop 1 self.now.line_offsets.now) }
+    {
+        self.line_offsets.get(1..1 + self.more).unwrap_or(&[])
+    }
+
+    // How many of the starts are at or before `pos`.
     fn line_of(&self, pos: u32) -> usize
         ensures count { result ≡ upto pos (starts_of self.now) }
         ensures some { 0 < result }
         ensures within { result - 1 ≤ self.now.more }
         ensures last { slice_index (starts_of self.now) (result - 1) ≤ pos }
     {
-        let mut low: usize = 1;
-        let mut high = self.more + 1;
-        while low < high {
-            let mid = low + (high - low) / 2;
-            if self.line_offsets[mid] <= pos {
-                low = mid + 1;
-            } else {
-                high = mid;
-            }
-        }
-        low
+        1 + self.later().partition_point(|start| *start <= pos)
     }
 
     // Where a line begins; the first begins at 0.
@@ -36,10 +33,9 @@ impl<'b> LineIndex<'b> {
         requires within { line - 1 ≤ self.now.more }
         ensures { result ≡ slice_index (starts_of self.now) (line - 1) }
     {
-        if line > 1 {
-            self.line_offsets[line - 1]
-        } else {
-            0
+        match line {
+            1 => 0,
+            _ => self.line_offsets[line - 1],
         }
     }
 

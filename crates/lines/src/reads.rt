@@ -2,23 +2,22 @@
 ghost use Rattle.std.specs.Prelude.{◌≡◌, length};
 ghost use Rattle.lines.specs.LineCols.{line_col};
 
-use spans::characters::begins_character;
+use crate::feeds::count_line_feeds;
+use spans::count_characters;
 
 // The line and the column at the end of `text`.
 fn read_line_col(text: &[u8]) -> (usize, usize)
     ensures { result ≡ line_col text.now (length text.now) }
 {
-    let mut line: usize = 1;
-    let mut column: usize = 1;
-    for b in text {
-        if *b == b'\n' {
-            line += 1;
-            column = 1;
-        } else if begins_character(*b) {
-            column += 1;
-        }
-    }
-    (line, column)
+    // where the last line begins
+    let from = text
+        .iter()
+        .rposition(|b| *b == b'\n')
+        .map_or(0, |feed| feed + 1);
+    (
+        1 + count_line_feeds(text),
+        1 + count_characters(&text[from..]),
+    )
 }
 
 // The line and the column of the offset `pos`, or of the text's end where it is past that.

@@ -6,7 +6,7 @@ ghost use Rattle.text.specs.Characters.{begins, boundary, characters};
 pub fn begins_character(b: u8) -> bool
     ensures { result ≡ begins b }
 {
-    b < 0x80 || b > 0xBF
+    !matches!(b, 0x80..=0xBF)
 }
 
 /// How many characters begin in `bytes`.
@@ -14,13 +14,7 @@ pub fn count_characters(bytes: &[u8]) -> usize
     ensures value { result ≡ characters bytes.now }
     ensures bound { result ≤ length bytes.now }
 {
-    let mut n: usize = 0;
-    for b in bytes {
-        if begins_character(*b) {
-            n += 1;
-        }
-    }
-    n
+    bytes.iter().filter(|b| begins_character(**b)).count()
 }
 
 /// Whether `offset` is 0, the text's length, or below that length where a character begins.

@@ -22,14 +22,14 @@ pub struct UnsoundSpan {
     pub cause: SpanCause,
 }
 
-impl UnsoundSpan {
+impl From<UnsoundSpan> for Refusal {
+    ghost from_gives = { λ e r. r ≡ unsound_refusal e };
+
     /// Number 11, at the start offset.
-    pub fn refusal(&self) -> Refusal
-        ensures { result ≡ unsound_refusal self.now }
-    {
+    fn from(e: UnsoundSpan) -> Refusal {
         Refusal {
             number: 11,
-            place: self.start as u64,
+            place: u64::from(e.start),
         }
     }
 }
@@ -41,18 +41,6 @@ pub enum SpanFault {
     Long(TooLong),
     /// The span is unsound.
     Unsound(UnsoundSpan),
-}
-
-impl SpanFault {
-    /// Number 1 at the text's length, or number 11 at the start offset.
-    pub fn refusal(&self) -> Refusal
-        ensures { result ≡ span_refusal self.now }
-    {
-        match self {
-            SpanFault::Long(long) => long.refusal(),
-            SpanFault::Unsound(unsound) => unsound.refusal(),
-        }
-    }
 }
 
 impl From<TooLong> for SpanFault {
@@ -68,5 +56,17 @@ impl From<UnsoundSpan> for SpanFault {
 
     fn from(e: UnsoundSpan) -> SpanFault {
         SpanFault::Unsound(e)
+    }
+}
+
+impl From<SpanFault> for Refusal {
+    ghost from_gives = { λ e r. r ≡ span_refusal e };
+
+    /// Number 1 at the text's length, or number 11 at the start offset.
+    fn from(e: SpanFault) -> Refusal {
+        match e {
+            SpanFault::Long(long) => Refusal::from(long),
+            SpanFault::Unsound(unsound) => Refusal::from(unsound),
+        }
     }
 }

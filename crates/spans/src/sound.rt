@@ -1,5 +1,5 @@
 //! Which spans of a text are sound.
-ghost use Rattle.std.specs.Prelude.{◌≡◌, is_ok, Decides};
+ghost use Rattle.std.specs.Prelude.{◌≡◌, ◌↔◌, IsOk};
 ghost use Rattle.spans.specs.Sound.{Sound, spanned};
 
 use crate::characters::is_boundary;
@@ -9,7 +9,7 @@ use crate::faults::{SpanCause, UnsoundSpan};
 /// The bytes may be any, well-formed or not.
 pub fn check_span(text: &[u8], start: u32, end: u32) -> Result<(), UnsoundSpan>
     ensures value { result ≡ spanned text.now start end }
-    ensures sound { Decides (is_ok result) (Sound text.now start end) }
+    ensures sound { IsOk result ↔ Sound text.now start end }
 {
     let cause = if start > end {
         SpanCause::StartAfterEnd

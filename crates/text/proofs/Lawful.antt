@@ -6,7 +6,8 @@ use Rattle.std.proofs.lemmas.Bool.Decides.{nat_tests}
 use Rattle.text.specs.declared.faults.TextFault.{TextFault}
 use Rattle.text.specs.declared.faults.TextFault.TheVariants.{Long, Malformed}
 use Rattle.text.specs.Verdicts.{Tested}
-use Rattle.std.specs.List.{flat_map, AllByRecursion}
+use Rattle.std.specs.List.{flat_map, All}
+use Rattle.std.proofs.lemmas.List.Elements.{All-head, All-tail}
 use Rattle.text.specs.Characters.{characters, begins}
 use Rattle.text.specs.Table.{Sequence, row1, row2, row3, row4, row5, row6, row7, row8, row9}
 use Rattle.text.specs.Splits.{Splits, WellFormed, Longest}
@@ -19,11 +20,11 @@ use Rattle.text.proofs.Unicode.{to_utf8, from_utf8}
 never_empty : {s : List ℕ} → Sequence s → (t : List ℕ) → s ++ t ≡ [] → ⊥
 never_empty {s} q t e = let p = parts q t in omega (arith, p.some, p.long, ap length e)
 
-one_way : (ss ts : List (List ℕ)) → AllByRecursion Sequence ss → AllByRecursion Sequence ts → flat_map (λ x. x) ss ≡ flat_map (λ x. x) ts → ss ≡ ts
+one_way : (ss ts : List (List ℕ)) → All Sequence ss → All Sequence ts → flat_map (λ x. x) ss ≡ flat_map (λ x. x) ts → ss ≡ ts
 one_way [] [] a b e = refl
-one_way [] (t ∷ ts) a b e = absurd (never_empty b.0 (flat_map (λ x. x) ts) (sym e))
-one_way (s ∷ ss) [] a b e = absurd (never_empty a.0 (flat_map (λ x. x) ss) e)
-one_way (s ∷ ss) (t ∷ ts) a b e = let f = same_first a.0 b.0 e in ap (λ x. x ∷ ss) f.0 ∙ ap (λ y. t ∷ y) (one_way ss ts a.1 b.1 f.1)
+one_way [] (t ∷ ts) a b e = absurd (never_empty (All-head Sequence t ts b) (flat_map (λ x. x) ts) (sym e))
+one_way (s ∷ ss) [] a b e = absurd (never_empty (All-head Sequence s ss a) (flat_map (λ x. x) ss) e)
+one_way (s ∷ ss) (t ∷ ts) a b e = let f = same_first (All-head Sequence s ss a) (All-head Sequence t ts b) e in ap (λ x. x ∷ ss) f.0 ∙ ap (λ y. t ∷ y) (one_way ss ts (All-tail Sequence s ss a) (All-tail Sequence t ts b) f.1)
 
 pub one_split : (text : List ℕ) (ss ts : List (List ℕ)) → Splits ss text → Splits ts text → ss ≡ ts
 one_split text ss ts p q = one_way ss ts p.each q.each (p.whole ∙ sym q.whole)
@@ -40,9 +41,9 @@ one_character (row7 p q r u) = grind (arith, nat_tests)
 one_character (row8 p q r u) = grind (arith, nat_tests)
 one_character (row9 p q r u) = grind (arith, nat_tests)
 
-counted_joined : (ss : List (List ℕ)) → AllByRecursion Sequence ss → length ss ≡ characters (flat_map (λ x. x) ss)
+counted_joined : (ss : List (List ℕ)) → All Sequence ss → length ss ≡ characters (flat_map (λ x. x) ss)
 counted_joined [] a = refl
-counted_joined (s ∷ ss) a = omega (arith, counted_joined ss a.1, one_character a.0, sum_by-append (λ b. cond (begins b) 1 0) s (flat_map (λ x. x) ss))
+counted_joined (s ∷ ss) a = omega (arith, counted_joined ss (All-tail Sequence s ss a), one_character (All-head Sequence s ss a), sum_by-append (λ b. cond (begins b) 1 0) s (flat_map (λ x. x) ss))
 
 pub counted : (text : List ℕ) (ss : List (List ℕ)) → Splits ss text → length ss ≡ characters text
 counted text ss p = counted_joined ss p.each ∙ ap characters p.whole

@@ -1,10 +1,10 @@
 -- The table by lengths: a sequence's length is a function of its first byte, and its other bytes fit their columns.
-use Rattle.std.proofs.Common.{◌≡◌, ℕ, ◌<◌, ◌≤◌, cond, leb, List, [], ◌∷◌, ◌++◌, length, get_or, take, drop, sym, ap, ◌∙◌, subst, inl, inr, arith}
+use Rattle.std.proofs.Common.{◌≡◌, ℕ, ◌≤◌, cond, leb, List, [], ◌∷◌, ◌++◌, length, get_or, take, drop, sym, ap, ◌∙◌, subst, inl, inr, arith}
 use Rattle.std.proofs.lemmas.List.{take_more, take-append-drop}
 use Rattle.std.proofs.lemmas.Bool.Decides.{nat_tests, leb_tells}
 use Rattle.text.specs.Table.{In, Second, Sequence, row1, row2, row3, row4, row5, row6, row7, row8, row9}
-use Rattle.text.specs.Sequences.{LengthOf, LeadsNone}
-use Rattle.text.specs.Splits.{Front, FrontsNone}
+use Rattle.text.specs.Sequences.{LengthOf}
+use Rattle.text.specs.Splits.{Front}
 
 -- the length by the first byte, 0 where no row begins with it
 unfoldable pub led : ℕ → ℕ
@@ -76,16 +76,8 @@ parts_front s t q e =
     let p = parts q t in
     subst (λ ys. Parts ys (led (get_or ys 0 0))) (sym e) (subst (Parts (s ++ t)) (sym p.leads) p)
 
-pub none_empty : (xs : List ℕ) → length xs < 1 → FrontsNone xs
-none_empty xs h s t q e = let p = parts_front s t q e in omega (arith, p.some, p.long)
-
 pub length_led : {s : List ℕ} → Sequence s → (t : List ℕ) → length s ≡ led (get_or (s ++ t) 0 0)
 length_led q t = sym (parts q t).leads
-
--- a sequence at a front, from its first byte on
-pub headed : (s t : List ℕ) → Sequence s → (r : List ℕ) × Sequence (get_or (s ++ t) 0 0 ∷ r)
-headed [] t q = absurd (omega (arith, (parts q t).some))
-headed (x ∷ s) t q = (s, q)
 
 -- a second byte for each first one
 second_some : (a : ℕ) → (b : ℕ) × Second a b
@@ -113,9 +105,6 @@ length_of a n e some most = record { every = λ t p. length_led p [] ∙ e; some
 pub led_of : {a n : ℕ} → LengthOf a n → led a ≡ n
 led_of l = sym (length_led l.some.1 []) ∙ l.every l.some.0 l.some.1
 
-pub leads_none : (a : ℕ) → led a ≡ 0 → LeadsNone a
-leads_none a e s q = let p = parts q [] in omega (arith, p.some, p.leads)
-
 -- a front of each length
 cut : (xs : List ℕ) (n : ℕ) (s : List ℕ) → take n xs ≡ s → Sequence s → Front xs (drop n xs)
 cut xs n s e q = (s, (q, sym (take-append-drop n xs) ∙ ap (λ p. p ++ drop n xs) e))
@@ -131,9 +120,6 @@ first3 xs l = take_more xs 2 0 l ∙ ap (λ p. p ++ get_or xs 2 0 ∷ []) (first
 
 first4 : (xs : List ℕ) → 4 ≤ length xs → take 4 xs ≡ get_or xs 0 0 ∷ get_or xs 1 0 ∷ get_or xs 2 0 ∷ get_or xs 3 0 ∷ []
 first4 xs l = take_more xs 3 0 l ∙ ap (λ p. p ++ get_or xs 3 0 ∷ []) (first3 xs (omega arith))
-
-pub front1 : (xs : List ℕ) → 1 ≤ length xs → led (get_or xs 0 0) ≡ 1 → Front xs (drop 1 xs)
-front1 xs l e = cut xs 1 _ (first1 xs l) (row (one e))
 
 pub front2 : (xs : List ℕ) → 2 ≤ length xs → led (get_or xs 0 0) ≡ 2 → Second (get_or xs 0 0) (get_or xs 1 0) → Front xs (drop 2 xs)
 front2 xs l e s = cut xs 2 _ (first2 xs l) (row (two e s))

@@ -1,7 +1,8 @@
 -- The table's sequences are the encodings of the Unicode scalar values.
 use Rattle.std.proofs.Common.{◌≡◌, ℕ, ◌+◌, ◌-◌, ◌*◌, ◌/◌, ◌<◌, ◌≤◌, true, ◌⊎◌, List, [], ◌∷◌, IsUtf8, sym, ◌∙◌, subst, inl, inr, ⊎_elim, arith}
 use lib.Utf8.{scalar, scalars, encode, encodes, next, scalar_cases}
-use Rattle.std.specs.List.{flat_map, AllByRecursion}
+use Rattle.std.specs.List.{flat_map, All}
+use Rattle.std.proofs.lemmas.List.Elements.{All-head, All-tail}
 use Rattle.std.proofs.lemmas.Str.{IsUtf8-append, IsUtf8-nil, IsUtf8-encode}
 use Rattle.std.proofs.lemmas.Bool.Decides.{nat_tests, leb_tells}
 use Rattle.text.specs.Table.{In, Sequence, row1, row2, row3, row4, row5, row6, row7, row8, row9}
@@ -115,9 +116,9 @@ decoded (row9 {a} {b} {c} {d} p q r u) = decoded4 a b c d (omega arith, omega ar
 utf8_sequence : {s : List ℕ} → Sequence s → IsUtf8 s
 utf8_sequence q = let d = decoded q in subst IsUtf8 d.1.1 (IsUtf8-encode d.0 d.1.0)
 
-utf8_joined : (ss : List (List ℕ)) → AllByRecursion Sequence ss → IsUtf8 (flat_map (λ x. x) ss)
+utf8_joined : (ss : List (List ℕ)) → All Sequence ss → IsUtf8 (flat_map (λ x. x) ss)
 utf8_joined [] a = IsUtf8-nil
-utf8_joined (s ∷ ss) a = IsUtf8-append s (flat_map (λ x. x) ss) (utf8_sequence a.0) (utf8_joined ss a.1)
+utf8_joined (s ∷ ss) a = IsUtf8-append s (flat_map (λ x. x) ss) (utf8_sequence (All-head Sequence s ss a)) (utf8_joined ss (All-tail Sequence s ss a))
 
 pub to_utf8 : (text : List ℕ) → WellFormed text → IsUtf8 text
 to_utf8 text (ss, p) = subst IsUtf8 p.whole (utf8_joined ss p.each)

@@ -2,6 +2,7 @@ pub mod Characters
 pub mod Faults
 pub mod Laws
 pub mod Limits
+pub mod Refusing
 pub mod Sequences
 pub mod Splits
 pub mod Table

@@ -1,5 +1,5 @@
 -- How long a text may be.
-use Rattle.std.specs.Prelude.{ℕ, cond, List, length, Ok, Err, Result, nat_lt}
+use Rattle.std.specs.Prelude.{ℕ, if◌then◌else◌, List, length, Ok, Err, Result, nat_lt}
 use Rattle.text.specs.declared.faults.TooLong.{TooLong}
 
 abbrev pub text_limit : ℕ
@@ -7,4 +7,4 @@ text_limit = 1048576
 
 -- a text over the limit is refused with its length
 abbrev pub limited : List ℕ → Result (Unit {0}) TooLong
-limited text = cond (nat_lt text_limit (length text)) (Err (record { length = length text })) (Ok tt)
+limited text = if nat_lt text_limit (length text) then Err (record { length = length text }) else Ok tt

@@ -1,11 +1,11 @@
 -- A text is well-formed when it splits into sequences of the table.
-use Rattle.std.specs.Prelude.{◌≡◌, ℕ, ◌<◌, ◌≤◌, List, ◌++◌, length, take, ◌≢◌}
-use Rattle.std.specs.List.{flat_map, AllByRecursion}
+use Rattle.std.specs.Prelude.{◌≡◌, ℕ, ◌<◌, ◌≤◌, List, ◌++◌, length, take, ◌≢◌, All}
+use Rattle.std.specs.List.{flat_map}
 use Rattle.text.specs.Table.{Sequence}
 
 -- the sequences ss, one after the other, are the text
 pub record Splits (ss : List (List ℕ)) (text : List ℕ) : Type 0 where
-  pub each : AllByRecursion Sequence ss
+  pub each : All Sequence ss
   pub whole : flat_map (λ s. s) ss ≡ text
 
 abbrev pub WellFormed : List ℕ → Type 0

@@ -11,14 +11,14 @@ pub struct TooLong {
     pub length: u64,
 }
 
-impl TooLong {
+impl From<TooLong> for Refusal {
+    ghost from_gives = { λ e r. r ≡ too_long_refusal e };
+
     /// Number 1, at the length.
-    pub fn refusal(&self) -> Refusal
-        ensures { result ≡ too_long_refusal self.now }
-    {
+    fn from(e: TooLong) -> Refusal {
         Refusal {
             number: 1,
-            place: self.length,
+            place: e.length,
         }
     }
 }
@@ -32,25 +32,25 @@ pub enum TextFault {
     Malformed { at: u32 },
 }
 
-impl TextFault {
-    /// Number 1 at the length, or number 2 at the offset of the first bad sequence.
-    pub fn refusal(&self) -> Refusal
-        ensures { result ≡ text_refusal self.now }
-    {
-        match self {
-            TextFault::Long(long) => long.refusal(),
-            TextFault::Malformed { at } => Refusal {
-                number: 2,
-                place: *at as u64,
-            },
-        }
-    }
-}
-
 impl From<TooLong> for TextFault {
     ghost from_gives = { λ e r. r ≡ Long e };
 
     fn from(e: TooLong) -> TextFault {
         TextFault::Long(e)
+    }
+}
+
+impl From<TextFault> for Refusal {
+    ghost from_gives = { λ e r. r ≡ text_refusal e };
+
+    /// Number 1 at the length, or number 2 at the offset of the first bad sequence.
+    fn from(e: TextFault) -> Refusal {
+        match e {
+            TextFault::Long(long) => Refusal::from(long),
+            TextFault::Malformed { at } => Refusal {
+                number: 2,
+                place: u64::from(at),
+            },
+        }
     }
 }

@@ -1,10 +1,11 @@
 //! One sequence of Table 3-7 at the front of a text.
-ghost use Rattle.std.specs.Prelude.{◌≡◌, Decides, MatchOption};
+ghost use Rattle.std.specs.Prelude.{◌↔◌, IsTrue, MatchOption};
 ghost use Rattle.text.specs.Sequences.{count, LengthOf, LeadsNone};
 ghost use Rattle.text.specs.Splits.{Front, FrontsNone};
 ghost use Rattle.text.specs.Table.{In, Second};
 
 /// How many bytes a sequence has.
+// an enum, and no number: a match has no arm for a length that no row has
 #[derive(Clone, Copy, PartialEq, Eq, Debug)]
 pub enum SequenceLength {
     One,
@@ -28,35 +29,31 @@ pub fn sequence_length(lead: u8) -> Option<SequenceLength>
 
 // Whether `b` may come second, after `lead`.
 fn second_fits(lead: u8, b: u8) -> bool
-    ensures { Decides result (Second lead b) }
+    ensures { IsTrue result ↔ Second lead b }
 {
     match lead {
-        0xE0 => 0xA0 <= b && b <= 0xBF,
-        0xED => 0x80 <= b && b <= 0x9F,
-        0xF0 => 0x90 <= b && b <= 0xBF,
-        0xF4 => 0x80 <= b && b <= 0x8F,
+        0xE0 => matches!(b, 0xA0..=0xBF),
+        0xED => matches!(b, 0x80..=0x9F),
+        0xF0 => matches!(b, 0x90..=0xBF),
+        0xF4 => matches!(b, 0x80..=0x8F),
         _ => tail_fits(b),
     }
 }
 
 // Whether `b` may come third or fourth.
 fn tail_fits(b: u8) -> bool
-    ensures { Decides result (In 0x80 0xBF b) }
+    ensures { IsTrue result ↔ In 0x80 0xBF b }
 {
-    0x80 <= b && b <= 0xBF
+    matches!(b, 0x80..=0xBF)
 }
 
 // What follows the first sequence, or `None` where the text begins with none.
 pub(crate) fn after_sequence(text: &[u8]) -> Option<&[u8]>
     ensures { MatchOption result (FrontsNone text.now) (λ t. Front text.now t.now) }
 {
-    let [lead, ..] = text else {
-        return None;
-    };
-    let Some(length) = sequence_length(*lead) else {
-        return None;
-    };
-    match length {
+    let lead = text.first()?;
+    // a pattern for each length names the sequence's bytes and what follows them
+    match sequence_length(*lead)? {
         SequenceLength::One => match text {
             [_, rest @ ..] => Some(rest),
             _ => None,

@@ -13,10 +13,8 @@ use crate::sequences::after_sequence;
 fn after_some(text: &[u8]) -> Option<&[u8]>
     ensures { MatchOption result (FrontsNone text.now) (λ t. Passed text.now t.now) }
 {
-    let [first, rest @ ..] = text else {
-        return None;
-    };
-    if *first >= 0x80 {
+    let (first, rest) = text.split_first()?;
+    if !first.is_ascii() {
         return after_sequence(text);
     }
     Some(after_bytes(after_blocks(rest)))

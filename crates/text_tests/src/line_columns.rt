@@ -2,6 +2,7 @@
 use lines::faults::LineFault;
 use lines::{LineIndex, Position};
 use std::test::Fail;
+use text::refusals::Refusal;
 
 // text, offset, line and column; the bytes of the last are `hello 你好` LF `world`
 const PLACES: [(&[u8], u32, usize, usize); 16] = [
@@ -24,22 +25,15 @@ const PLACES: [(&[u8], u32, usize, usize); 16] = [
 ];
 
 #[test]
-fn reading_and_the_table_agree(rt: HostRuntime) -> Result<(), Fail> {
+fn reading_and_the_table_agree(rt: HostRuntime) {
     for (text, offset, line, column) in PLACES {
         let mut buffer = [7u32; 8];
         let mut table = LineIndex::new(&mut buffer);
         assert_eq!(rt; table.fill(text), Ok(()));
-        let Ok(found) = table.line_col(text, offset) else {
-            return Err(Fail::new("the table refuses a boundary"));
-        };
-        assert_eq!(rt; found, (line, column));
-        let Ok(position) = Position::new(text, offset) else {
-            return Err(Fail::new("a boundary is refused"));
-        };
-        assert_eq!(rt; position.pos(), offset);
-        assert_eq!(rt; position.line_col(), (line, column));
+        assert_eq!(rt; table.line_col(text, offset), Ok((line, column)));
+        let read = Position::new(text, offset).map(|at| (at.pos(), at.line_col()));
+        assert_eq!(rt; read, Ok((offset, (line, column))));
     }
-    Ok(())
 }
 
 #[test]
@@ -61,50 +55,49 @@ fn a_short_buffer_is_refused_and_stays(rt: HostRuntime) {
         assert_eq!(rt; table.fill(b"a\nb"), Ok(()));
         // the table stays as it was filled before
         assert_eq!(rt; table.fill(b"\n\n\n"), Err(LineFault::Short { needed: 4 }));
-        assert!(rt; table.line_col(b"a\nb", 3) == Ok((2, 2)));
+        assert_eq!(rt; table.line_col(b"a\nb", 3), Ok((2, 2)));
     }
     assert_eq!(rt; buffer, [0, 2]);
     let mut none = [0u32; 0];
     let mut table = LineIndex::new(&mut none);
     assert_eq!(rt; table.fill(b""), Err(LineFault::Short { needed: 1 }));
     // a new table is 0 alone, whatever its buffer
-    assert!(rt; table.line_col(b"a\nb", 3) == Ok((1, 4)));
+    assert_eq!(rt; table.line_col(b"a\nb", 3), Ok((1, 4)));
 }
 
-// the number and the place of a refused offset, by the table and by reading; (0, 0) where it is answered
-fn refused(text: &[u8], offset: u32) -> ((u8, u64), (u8, u64)) {
+// by a table of the first line alone
+fn looked_up(text: &[u8], offset: u32) -> Result<(usize, usize), Refusal> {
     let mut buffer = [0u32; 1];
-    let table = LineIndex::new(&mut buffer);
-    let looked = match table.line_col(text, offset) {
-        Ok(_) => (0, 0),
-        Err(fault) => (fault.refusal().number, fault.refusal().place),
-    };
-    let read = match Position::new(text, offset) {
-        Ok(_) => (0, 0),
-        Err(fault) => (fault.refusal().number, fault.refusal().place),
-    };
-    (looked, read)
+    Ok(LineIndex::new(&mut buffer).line_col(text, offset)?)
+}
+
+fn read(text: &[u8], offset: u32) -> Result<(usize, usize), Refusal> {
+    Ok(Position::new(text, offset)?.line_col())
 }
 
 #[test]
 fn offsets_past_the_text_or_in_a_character_are_refused(rt: HostRuntime) -> Result<(), Fail> {
-    assert_eq!(rt; refused(b"ab", 3), ((11, 3), (11, 3)));
-    assert_eq!(rt; refused(&[0xF0, 0x9F, 0x92, 0x96], 2), ((11, 2), (11, 2)));
-    assert_eq!(rt; refused(&[0xF0, 0x9F, 0x92, 0x96], 4), ((0, 0), (0, 0)));
+    let heart = [0xF0, 0x9F, 0x92, 0x96];
+    let unsound = |place| Err(Refusal { number: 11, place });
+    assert_eq!(rt; looked_up(b"ab", 3), unsound(3));
+    assert_eq!(rt; read(b"ab", 3), unsound(3));
+    assert_eq!(rt; looked_up(&heart, 2), unsound(2));
+    assert_eq!(rt; read(&heart, 2), unsound(2));
+    assert_eq!(rt; looked_up(&heart, 4), Ok((1, 2)));
+    assert_eq!(rt; read(&heart, 4), Ok((1, 2)));
     let mut text = Vec::new(rt.alloc());
     text.resize(1_048_577, b'x')?;
-    assert_eq!(rt;
-        refused(text.as_slice(), 0),
-        ((1, 1_048_577), (1, 1_048_577))
-    );
+    let long = Refusal {
+        number: 1,
+        place: 1_048_577,
+    };
+    assert_eq!(rt; looked_up(text.as_slice(), 0), Err(long));
+    assert_eq!(rt; read(text.as_slice(), 0), Err(long));
     let mut buffer = [0u32; 1];
     let mut table = LineIndex::new(&mut buffer);
-    let Err(fault) = table.fill(text.as_slice()) else {
-        return Err(Fail::new("filled from a text over the limit"));
-    };
     assert_eq!(rt;
-        (fault.refusal().number, fault.refusal().place),
-        (1, 1_048_577)
+        table.fill(text.as_slice()).map_err(Refusal::from),
+        Err(long)
     );
     Ok(())
 }

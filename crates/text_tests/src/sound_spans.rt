@@ -1,7 +1,8 @@
 //! Sound spans, and the causes of unsound ones.
-use spans::faults::SpanCause;
+use spans::faults::{SpanCause, UnsoundSpan};
 use spans::{Span, check_span, count_characters, is_boundary};
 use std::test::Fail;
+use text::refusals::Refusal;
 
 // 💖
 const HEART: [u8; 4] = [0xF0, 0x9F, 0x92, 0x96];
@@ -22,47 +23,40 @@ const SPANS: [(u32, u32, Option<SpanCause>); 12] = [
     (4_294_967_295, 4_294_967_295, Some(SpanCause::EndPastText)),
 ];
 
-fn found(text: &[u8], start: u32, end: u32) -> Option<SpanCause> {
-    match check_span(text, start, end) {
-        Ok(()) => None,
-        Err(unsound) => Some(unsound.cause),
-    }
-}
-
 #[test]
 fn causes_come_in_their_order(rt: HostRuntime) {
     for (start, end, cause) in SPANS {
-        assert_eq!(rt; found(&HEART, start, end), cause);
+        let unsound = check_span(&HEART, start, end).err();
+        assert_eq!(rt; unsound, cause.map(|cause| UnsoundSpan { start, cause }));
     }
 }
 
-// the number and the place of what making a span answers; (0, 0) where it is made as asked
-fn answer(text: &[u8], start: u32, end: u32) -> (u8, u64) {
-    match Span::new(text, start, end) {
-        Ok(span) if span.start() == start && span.end() == end => (0, 0),
-        Ok(_) => (255, 0),
-        Err(fault) => {
-            let refusal = fault.refusal();
-            (refusal.number, refusal.place)
-        }
-    }
+// the start and the end of the span that is made
+fn made(text: &[u8], start: u32, end: u32) -> Result<(u32, u32), Refusal> {
+    let span = Span::new(text, start, end)?;
+    Ok((span.start(), span.end()))
 }
 
 #[test]
 fn spans_are_made_or_refused_at_their_start(rt: HostRuntime) {
-    assert_eq!(rt; answer(&HEART, 0, 4), (0, 0));
-    assert_eq!(rt; answer(&HEART, 0, 1), (11, 0));
-    assert_eq!(rt; answer(&HEART, 2, 4), (11, 2));
-    assert_eq!(rt; answer(&[], 0, 0), (0, 0));
-    assert_eq!(rt; answer(&[], 7, 0), (11, 7));
+    let unsound = |place| Err(Refusal { number: 11, place });
+    assert_eq!(rt; made(&HEART, 0, 4), Ok((0, 4)));
+    assert_eq!(rt; made(&HEART, 0, 1), unsound(0));
+    assert_eq!(rt; made(&HEART, 2, 4), unsound(2));
+    assert_eq!(rt; made(&[], 0, 0), Ok((0, 0)));
+    assert_eq!(rt; made(&[], 7, 0), unsound(7));
 }
 
 #[test]
 fn a_text_over_the_limit_comes_first(rt: HostRuntime) -> Result<(), Fail> {
     let mut text = Vec::new(rt.alloc());
     text.resize(1_048_577, b'x')?;
-    assert_eq!(rt; answer(text.as_slice(), 5, 1), (1, 1_048_577));
-    assert_eq!(rt; answer(text.as_slice(), 0, 0), (1, 1_048_577));
+    let long = Err(Refusal {
+        number: 1,
+        place: 1_048_577,
+    });
+    assert_eq!(rt; made(text.as_slice(), 5, 1), long);
+    assert_eq!(rt; made(text.as_slice(), 0, 0), long);
     Ok(())
 }
 

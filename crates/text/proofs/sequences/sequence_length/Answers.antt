@@ -1,6 +1,6 @@
 use Rattle.std.proofs.Common.{arith}
 use Rattle.std.proofs.lemmas.Bool.Decides.{nat_tests}
-use Rattle.text.proofs.Shapes.{led, length_of, leads_none}
+use Rattle.text.proofs.Shapes.{led, length_of}
 use Rattle.text.proofs.sequences.sequence_length.Goals as goal
 
 pub returns-in-0-to-127 : goal.returns-in-0-to-127
@@ -18,11 +18,3 @@ returns-in-224-to-239 c = length_of c.args.lead _ (grind (arith, nat_tests)) (om
 pub returns-in-240-to-244 : goal.returns-in-240-to-244
 unfolding led
 returns-in-240-to-244 c = length_of c.args.lead _ (grind (arith, nat_tests)) (omega arith) (omega arith)
-
-pub returns-in_default : goal.returns-in_default
-unfolding led
-returns-in_default c = leads_none c.args.lead (grind (arith, nat_tests))
-
-pub returns-in_default-2 : goal.returns-in_default-2
-unfolding led
-returns-in_default-2 c = leads_none c.args.lead (grind (arith, nat_tests))

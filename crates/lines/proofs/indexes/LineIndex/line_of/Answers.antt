@@ -1,37 +1,24 @@
-use Rattle.std.proofs.Common.{◌+◌, ◌-◌, ◌/◌, take, drop, sym, subst, arith}
+use Rattle.std.proofs.Common.{◌≡◌, ◌+◌, ◌-◌, ◌∷◌, leb, length, sym, ap, ◌∙◌, subst, arith, rules}
+use Rattle.std.specs.List.Sorted.{IsStrictlyIncreasing}
+use Rattle.std.proofs.lemmas.List.Sorted.{IsPartitionPoint-from_clause, IsPartitionedBy-leb}
 use Rattle.lines.specs.Fills.{starts_of}
-use Rattle.lines.proofs.Search.{Bracket, bracket_all, bracket_low, bracket_high, upto_is, noted_entry, length-noted}
+use Rattle.lines.specs.LineCols.{upto}
+use Rattle.lines.proofs.Search.{Splits, front_below, length-noted, never_fall, upto_split}
 use Rattle.lines.proofs.indexes.LineIndex.line_of.Goals as goal
-
-pub loop-low-init : goal.loop-low-init
-loop-low-init c =
-    let t = c.args.self.now in
-    subst (Bracket (starts_of t) c.args.pos 1) (length-noted t.line_offsets.now t.more t.fits) (bracket_all c.args.pos (take t.more (drop 1 t.line_offsets.now)))
-
-pub loop-low-preserved-then-self-mid : goal.loop-low-preserved-then-self-mid
-loop-low-preserved-then-self-mid c =
-    let t = c.args.self.now in
-    let b = c.loop-low.invariant in
-    let mid = c.loop-low.low + (c.loop-low.high - c.loop-low.low) / 2 in
-    let e = noted_entry t.line_offsets.now t.more mid (omega (arith, b.some)) (omega (arith, b.within, length-noted t.line_offsets.now t.more t.fits)) in
-    bracket_low mid t.rises (omega arith) (omega arith) (omega (arith, e, c.if-self-mid.true)) b
-
-pub loop-low-preserved : goal.loop-low-preserved
-loop-low-preserved c =
-    let t = c.args.self.now in
-    let b = c.loop-low.invariant in
-    let mid = c.loop-low.low + (c.loop-low.high - c.loop-low.low) / 2 in
-    let e = noted_entry t.line_offsets.now t.more mid (omega (arith, b.some)) (omega (arith, b.within, length-noted t.line_offsets.now t.more t.fits)) in
-    bracket_high mid t.rises (omega arith) (omega arith) (omega (arith, e, c.if-self-mid.false)) b
 
 pub returns : goal.returns
 returns c =
     let t = c.args.self.now in
-    let b = c.loop-low.invariant in
-    let low = c.loop-low.low in
+    let at = c.args.pos in
+    let later = c.later.result.now in
+    let n = c.partition_point.result in
+    let is : starts_of t ≡ 0 ∷ later = ap (λ ys. 0 ∷ ys) (sym c.later.ensures) in
+    let rises : IsStrictlyIncreasing (0 ∷ later) = subst IsStrictlyIncreasing is t.rises in
+    let parted = IsPartitionedBy-leb (λ x. x) later at (never_fall later rises) in
+    let point : Splits at later n = IsPartitionPoint-from_clause (λ x. leb x at) _ _ c.partition_point.ensures.partitioned parted (λ a r q k. search rules) in
     record {
-      count = sym (upto_is c.args.pos (starts_of t) low (omega (arith, b.order, b.within)) b.below (λ k h l. b.past k (omega (arith, b.order)) l));
-      some = b.some;
-      within = omega (arith, b.order, b.within, length-noted t.line_offsets.now t.more t.fits);
-      last = b.below (low - 1) (omega (arith, b.some));
+      count = sym (ap (upto at) is ∙ upto_split at later n c.partition_point.ensures.bound point);
+      some = omega arith;
+      within = omega (arith, c.partition_point.ensures.bound, ap length is, length-noted t.line_offsets.now t.more t.fits);
+      last = rw is (front_below at later n point (1 + n - 1) (omega arith));
     }

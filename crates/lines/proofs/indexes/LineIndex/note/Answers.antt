@@ -1,24 +1,12 @@
-use Rattle.std.proofs.Common.{◌+◌, set, sym, refl, subst, arith, rules}
+use Rattle.std.proofs.Common.{set, sym, subst, arith}
 use Rattle.std.proofs.lemmas.List.{length-set}
-use Rattle.lines.specs.Rising.{Rising}
-use Rattle.lines.proofs.Noting.{noted_none, noted_skip, noted_more, noted_room, noted_all, rising_alone, rising_starts}
+use Rattle.std.specs.List.Sorted.{IsStrictlyIncreasing}
+use Rattle.lines.proofs.Noting.{noted_skip, noted_more, noted_room, noted_all, rising_starts}
 use Rattle.lines.proofs.indexes.LineIndex.note.Goals as goal
 use Rattle.lines.proofs.indexes.LineIndex.note.Goals.{then-b-eq10, else-b-eq10}
 
-pub loop-i-init : goal.loop-i-init
-loop-i-init c = (noted_none c.args.text.now c.args.self.now.line_offsets.now (omega arith), (refl, refl))
-
-pub offset_bounds-self-n : goal.offset_bounds-self-n
-offset_bounds-self-n c = let h = noted_room c.args.self.now.line_offsets.now (omega arith) c.if-b-eq10.true c.requires.count c.requires.room c.loop-i.invariant.0 in search rules
-
 pub bounds-self-n : goal.bounds-self-n
 bounds-self-n c = (noted_room c.args.self.now.line_offsets.now (omega arith) c.if-b-eq10.true c.requires.count c.requires.room c.loop-i.invariant.0).1
-
-pub invariant_of-self-then-b-eq10 : goal.invariant_of-self-then-b-eq10
-invariant_of-self-then-b-eq10 c = record { fits = omega (arith, c.loop-i.invariant.1.0); rises = rising_alone (set c.loop-i.self.line_offsets.now c.loop-i.n (c.loop-i.i + 1)) c.loop-i.self.more c.loop-i.invariant.1.0 }
-
-pub overflow_add-n : goal.overflow_add-n
-overflow_add-n c = let h = noted_room c.args.self.now.line_offsets.now (omega arith) c.if-b-eq10.true c.requires.count c.requires.room c.loop-i.invariant.0 in search rules
 
 pub loop-i-preserved : goal.loop-i-preserved
 loop-i-preserved c =
@@ -40,7 +28,7 @@ invariant_of-self-3 c =
     let old = c.args.self.now.line_offsets.now in
     let p = c.loop-i.invariant.0 in
     let all = noted_all old c.loop-i-test.false c.requires.count p in
-    record { fits = omega (arith, p.long, length-set old 0 0); rises = subst Rising (sym all.1) (rising_starts c.args.text.now) }
+    record { fits = omega (arith, p.long, length-set old 0 0); rises = subst IsStrictlyIncreasing (sym all.1) (rising_starts c.args.text.now) }
 
 pub returns : goal.returns
 returns c =
