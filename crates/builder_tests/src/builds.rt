@@ -1,7 +1,6 @@
 //! Queues that are built, and refusals of builds.
 use builders::PairsBuilder;
 use builders::builds::{BuildFault, NodeFault};
-use queues::nodes::Nodes;
 use queues::records::Node;
 use queues::slices::SliceNodes;
 use queues::tokens::{Tag, Token};
@@ -33,10 +32,10 @@ fn fault(
 ) -> Option<BuildFault> {
     let count = nodes.len();
     let list = SliceNodes::over(nodes, count);
-    match PairsBuilder::new().build(&list, text, labels, buffer) {
-        Ok(_) => None,
-        Err(refused) => Some(refused.fault),
-    }
+    PairsBuilder::new()
+        .build(&list, text, labels, buffer)
+        .err()
+        .map(|refused| refused.fault)
 }
 
 #[test]
@@ -145,10 +144,7 @@ fn an_open_builder_comes_back(rt: HostRuntime) -> Result<(), Fail> {
     // what comes back goes on
     let mut builder = refused.builder;
     assert!(rt; builder.close(&list).is_ok());
-    let Ok(count) = builder.build(&list, b"", b"", &mut buffer) else {
-        return Err(Fail::new("refused once closed"));
-    };
-    assert_eq!(rt; count, 2);
+    assert_eq!(rt; builder.build(&list, b"", b"", &mut buffer).ok(), Some(2));
     Ok(())
 }
 

@@ -17,10 +17,7 @@ const EMPTY: Node<u8> = Node {
 
 // the depth and the tag of a node, or none
 fn seen(list: &SliceNodes<'_, u8>, i: usize) -> Option<(u32, Option<Tag>)> {
-    match list.node(i) {
-        Some(node) => Some((node.depth, node.tag)),
-        None => None,
-    }
+    list.node(i).map(|node| (node.depth, node.tag))
 }
 
 #[test]

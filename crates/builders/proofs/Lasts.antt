@@ -1,47 +1,69 @@
 -- Looking for the last node of a depth from the end.
-use Rattle.std.proofs.Common.{◌≡◌, ℕ, suc, ◌+◌, ◌<◌, ◌≤◌, Bool, true, false, cond, eqb, List, [], ◌∷◌, ◌++◌, length, get_or, take, drop, Some, None, Option, sym, refl, ap, ◌∙◌, add-zero, arith}
-use Rattle.std.specs.List.{slice_get}
-use Rattle.std.proofs.lemmas.List.{drop_more, get_or-map, length-map, length-take-le, take-append-drop}
-use Rattle.std.proofs.lemmas.Option.{slice_get-get_or}
+use Rattle.std.proofs.Common.{◌≡◌, ℕ, suc, ◌+◌, Bool, true, false, cond, eqb, List, [], ◌∷◌, ◌++◌, length, Some, None, Option, sym, refl, ap, ◌∙◌, subst, add-zero, arith}
+use Rattle.std.specs.Fn.{Called, Mut}
+use Rattle.std.specs.Iterator.{Yields, YieldsLast, FindsPositionBack}
+use Rattle.std.specs.List.{FoldsTo}
+use Rattle.std.specs.Option.{option_or}
+use Rattle.std.proofs.lemmas.List.{length_push, map_push, length-map}
 use Rattle.queues.specs.declared.records.Node.{Node}
 use Rattle.queues.specs.Records.{depths}
-use Rattle.builders.specs.Calls.{has_depth, later, last_at, last_from}
+use Rattle.builders.specs.Calls.{last_at, last_from}
 
-later-later : (a b c : Option ℕ) → later (later a b) c ≡ later a (later b c)
-later-later None b c = refl
-later-later (Some x) b c = refl
+or_none : (a : Option ℕ) → option_or a None ≡ a
+or_none None = refl
+or_none (Some x) = refl
 
-later_none : (a : Option ℕ) → later a None ≡ a
-later_none None = refl
-later_none (Some x) = refl
+or_assoc : (a b c : Option ℕ) → option_or (option_or a b) c ≡ option_or a (option_or b c)
+or_assoc None b c = refl
+or_assoc (Some x) b c = refl
 
-last_append : (depth i : ℕ) (xs ys : List ℕ) → last_from depth i (xs ++ ys) ≡ later (last_from depth (i + length xs) ys) (last_from depth i xs)
-last_append depth i [] ys = rw add-zero (sym (later_none (last_from depth i ys)))
-last_append depth i (x ∷ xs) ys =
-    let k : i + 1 + length xs ≡ i + suc (length xs) = omega arith in
-    ap (λ o. later o (cond (eqb x depth) (Some i) None)) (last_append depth (i + 1) xs ys ∙ ap (λ n. later (last_from depth n ys) (last_from depth (i + 1) xs)) k)
-    ∙ later-later (last_from depth (i + suc (length xs)) ys) (last_from depth (i + 1) xs) (cond (eqb x depth) (Some i) None)
+-- the last depth is looked at first
+last_push : (depth i : ℕ) (ds : List ℕ) (d : ℕ) → last_from depth i (ds ++ d ∷ []) ≡ option_or (cond (eqb d depth) (Some (i + length ds)) None) (last_from depth i ds)
+last_push depth i [] d = rw (add-zero, or_none (cond (eqb d depth) (Some i) None)) refl
+last_push depth i (x ∷ ds) d =
+    let k : i + 1 + length ds ≡ i + suc (length ds) = omega arith in
+    ap (λ o. option_or o (cond (eqb x depth) (Some i) None)) (last_push depth (i + 1) ds d ∙ ap (λ n. option_or (cond (eqb d depth) (Some n) None) (last_from depth (i + 1) ds)) k)
+    ∙ or_assoc (cond (eqb d depth) (Some (i + suc (length ds))) None) (last_from depth (i + 1) ds) (cond (eqb x depth) (Some i) None)
 
--- the last one before i, where none is from i on
-last_split : (depth : ℕ) (ds : List ℕ) (i : ℕ) → i ≤ length ds → last_at depth ds ≡ later (last_from depth i (drop i ds)) (last_from depth 0 (take i ds))
-last_split depth ds i h =
-    let k : 0 + length (take i ds) ≡ i = omega (arith, length-take-le i ds h) in
-    ap (last_from depth 0) (sym (take-append-drop i ds)) ∙ last_append depth 0 (take i ds) (drop i ds) ∙ ap (λ n. later (last_from depth n (drop i ds)) (last_from depth 0 (take i ds))) k
+module _ {R : Type 0} (depth : ℕ) (ns ms : List (Node R)) (n : Node R) (e : ns ≡ ms ++ n ∷ []) where
+  last_node : (b : Bool) → b ≡ eqb n.depth depth → last_at depth (depths ns) ≡ option_or (cond b (Some (length ms)) None) (last_at depth (depths ms))
+  last_node b t =
+      let k : 0 + length (depths ms) ≡ length ms = omega (arith, length-map ms (λ m. m.depth)) in
+      ap (λ l. last_at depth (depths l)) e ∙ ap (last_at depth) (map_push (λ m. m.depth) ms n) ∙ last_push depth 0 (depths ms) n.depth
+      ∙ ap (λ k. option_or (cond (eqb n.depth depth) (Some k) None) (last_at depth (depths ms))) k
+      ∙ ap (λ t. option_or (cond t (Some (length ms)) None) (last_at depth (depths ms))) (sym t)
 
-last_step : (depth : ℕ) (ds : List ℕ) (i : ℕ) (t : Bool) → i < length ds → t ≡ eqb (get_or ds i 0) depth → last_from depth (i + 1) (drop (i + 1) ds) ≡ None → last_from depth i (drop i ds) ≡ cond t (Some i) None
-last_step depth ds i t l e n = ap (last_from depth i) (drop_more ds i 0 l) ∙ (λ k. later (n k) (cond (sym e k) (Some i) None))
+-- a closure that tests a node's depth finds the last node of that depth
+module _ {R F : Type 0} (g : Mut F (Node R × Unit {0}) Bool) (f : F) (depth : ℕ) (tests : (x : Node R) (b : Bool) (q : F) → Called g f (x, tt) b q → (q ≡ f) × (b ≡ eqb x.depth depth)) where
+  -- passing over nodes of other depths
+  pub record Passed (s t : List (Node R)) (count : ℕ) (j : F) : Type 0 where
+    pub kept : j ≡ f
+    pub same : last_at depth (depths s) ≡ last_at depth (depths t)
+    pub counted : length s ≡ length t + count
 
-has_depth_lem : {R : Type 0} (nodes : List (Node R)) (depth i : ℕ) → i < length nodes → has_depth (slice_get nodes i) depth ≡ eqb (get_or (depths nodes) i 0) depth
-has_depth_lem [] depth i l = absurd (omega arith)
-has_depth_lem (m ∷ nodes) depth i l = ap (λ o. has_depth o depth) (slice_get-get_or (m ∷ nodes) i m l) ∙ ap (λ d. eqb d depth) (sym (get_or-map (λ x. x.depth) (m ∷ nodes) i m 0 l))
+  passed : (xs : List (Node R)) (s t : List (Node R)) (i j : F) → i ≡ f → Yields (YieldsLast (λ rest. rest)) s xs t → FoldsTo (λ p x q. Called g p (x, tt) false q) i xs j → Passed s t (length xs) j
+  passed [] s t i j e y c =
+      record {
+        kept = sym c ∙ e;
+        same = ap (λ z. last_at depth (depths z)) y;
+        counted = omega (arith, ap length y);
+      }
+  passed (x ∷ xs) s t i j e (s', step, y) (q, here, c) =
+      let a = tests x false q (subst (λ k. Called g k (x, tt) false q) e here) in
+      let p = passed xs s' t q j a.0 y c in
+      record {
+        kept = p.kept;
+        same = last_node depth s s' x step false a.1 ∙ p.same;
+        counted = omega (arith, p.counted, ap length step, length_push s' x);
+      }
 
-module _ {R : Type 0} (nodes : List (Node R)) (depth i : ℕ) (l : i < length nodes) (n : last_from depth (i + 1) (drop (i + 1) (depths nodes)) ≡ None) where
-  pub last_here : has_depth (slice_get nodes i) depth ≡ true → last_at depth (depths nodes) ≡ Some i
-  last_here h =
-      let lt : i < length (depths nodes) = omega (arith, length-map nodes (λ x. x.depth)) in
-      last_split depth (depths nodes) i (omega arith) ∙ ap (λ o. later o (last_from depth 0 (take i (depths nodes)))) (last_step depth (depths nodes) i true lt (sym h ∙ has_depth_lem nodes depth i l) n)
-
-  pub last_before : has_depth (slice_get nodes i) depth ≡ false → last_from depth i (drop i (depths nodes)) ≡ None
-  last_before h =
-      let lt : i < length (depths nodes) = omega (arith, length-map nodes (λ x. x.depth)) in
-      last_step depth (depths nodes) i false lt (sym h ∙ has_depth_lem nodes depth i l) n
+  pub found : (s u : List (Node R)) (r : Option ℕ) → FindsPositionBack (YieldsLast (λ rest. rest)) g s f (length s) r u → r ≡ last_at depth (depths s)
+  found s u r (xs, None, j, (t, y, step), c, e) =
+      let p = passed xs s t f j refl y c in
+      e ∙ sym (ap (λ z. last_at depth (depths z)) step.0) ∙ sym p.same
+  found s u None (xs, Some x, j, (t, y, step), c, e) = absurd e.0
+  found s u (Some i) (xs, Some x, j, (t, y, step), c, e) =
+      let p = passed xs s t f j refl y c in
+      let a = tests x true e.1.0 (subst (λ k. Called g k (x, tt) true e.1.0) p.kept e.1.1) in
+      let k : i ≡ length u = omega (arith, e.0, p.counted, ap length step, length_push u x) in
+      ap Some k ∙ sym (last_node depth t u x step true a.1) ∙ sym p.same

@@ -1,18 +1,16 @@
 //! Adding pairs.
-ghost use Rattle.std.specs.Prelude.{◌≡◌, ◌+◌, length, Some, None};
-ghost use Rattle.builders.specs.Calls.{Done, append_fault, full_fault, grown, open_fault, unlawful_fault, unless};
+ghost use Rattle.std.specs.Prelude.{◌≡◌, ◌+◌, false, length, Some, None, is_ok, if◌then◌else◌};
+ghost use Rattle.text.specs.Refusing.{unless};
+ghost use Rattle.builders.specs.Calls.{append_fault, full_fault, grown, open_fault, unlawful_fault};
 
 use crate::builder::PairsBuilder;
 use crate::faults::BuilderFault;
-use queues::nodes::Nodes;
+use queues::nodes::{DEPTH_LIMIT, NODE_LIMIT, Nodes};
 use queues::records::Node;
-
-/// The most nodes that a list may have.
-pub const NODE_LIMIT: usize = 65536;
 
 // Refuses a list to which no node can be added.
 fn check_room<R: Copy, N: Nodes<R>>(nodes: &N) -> Result<(), BuilderFault>
-    ensures { result ≡ unless (full_fault (N.Nodes.full nodes.now) (N.Nodes.list nodes.now)) }
+    ensures { result ≡ unless (full_fault (N.full nodes.now) (N.list nodes.now)) tt }
 {
     let count = nodes.len();
     if nodes.is_full() || count >= NODE_LIMIT {
@@ -25,34 +23,48 @@ fn check_room<R: Copy, N: Nodes<R>>(nodes: &N) -> Result<(), BuilderFault>
 
 // Refuses a list that is not lawful.
 pub(crate) fn check_lawful<R: Copy, N: Nodes<R>>(nodes: &N) -> Result<(), BuilderFault>
-    ensures { result ≡ unless (unlawful_fault (N.Nodes.list nodes.now)) }
+    ensures { result ≡ unless (unlawful_fault (N.list nodes.now)) tt }
 {
-    match nodes.first_unlawful() {
-        Some(node) => Err(BuilderFault::Unlawful { node: node as u64 }),
-        None => Ok(()),
+    if let Some(node) = nodes.first_unlawful() {
+        return Err(BuilderFault::Unlawful { node: node as u64 });
     }
+    Ok(())
 }
 
 impl PairsBuilder {
     /// What `rule` would refuse of this list, whatever the pair.
     pub fn check_rule<R: Copy, N: Nodes<R>>(&self, nodes: &N) -> Result<(), BuilderFault>
-        ensures { result ≡ unless (append_fault (N.Nodes.full nodes.now) (N.Nodes.list nodes.now)) }
+        ensures { result ≡ unless (append_fault (N.full nodes.now) (N.list nodes.now)) tt }
     {
-        match check_room(nodes) {
-            Ok(()) => check_lawful(nodes),
-            Err(fault) => Err(fault),
-        }
+        check_room(nodes).and_then(|()| check_lawful(nodes))
     }
 
     /// What `open` would refuse of this list, whatever the pair.
     pub fn check_open<R: Copy, N: Nodes<R>>(&self, nodes: &N) -> Result<(), BuilderFault>
-        ensures { result ≡ unless (open_fault (N.Nodes.full nodes.now) self.now.depth (N.Nodes.list nodes.now)) }
+        ensures { result
+            ≡ unless (open_fault (N.full nodes.now) self.now.depth (N.list nodes.now)) tt }
     {
         check_room(nodes)?;
-        if self.depth == 255 {
-            return Err(BuilderFault::Deep { depth: 255 });
+        if u32::from(self.depth) == DEPTH_LIMIT {
+            return Err(BuilderFault::Deep { depth: DEPTH_LIMIT });
         }
         check_lawful(nodes)
+    }
+
+    // Adds a pair at the builder's depth, where there is room.
+    // A rule and two offsets, as a caller has them: a struct of the three would be made for each call, and be no plainer.
+    fn add<R: Copy, N: Nodes<R>>(&self, nodes: &mut N, rule: R, start: u32, end: u32)
+        requires { N.full nodes.old ≡ false }
+        ensures { N.list nodes.new ≡ grown (N.list nodes.old) rule start end self.now.depth }
+    {
+        let node = Node {
+            rule,
+            start,
+            end,
+            depth: u32::from(self.depth),
+            tag: None,
+        };
+        nodes.push(&node).unwrap();
     }
 
     /// Adds a pair at the builder's depth, which becomes the pair to tag.
@@ -64,18 +76,18 @@ impl PairsBuilder {
         start: u32,
         end: u32,
     ) -> Result<(), BuilderFault>
-        ensures { Done (append_fault (N.Nodes.full nodes.old) (N.Nodes.list nodes.old)) (N.Nodes.list nodes.old) (N.Nodes.list nodes.new) self.old self.new (grown (N.Nodes.list nodes.old) rule start end self.old.depth) self.old.depth (Some (length (N.Nodes.list nodes.old))) result }
+        ensures fault { result ≡ unless (append_fault (N.full nodes.old) (N.list nodes.old)) tt }
+        ensures nodes { N.list nodes.new
+            ≡ (if is_ok result then grown (N.list nodes.old) rule start end self.old.depth
+            else N.list nodes.old) }
+        ensures builder { self.new
+            ≡ (if is_ok result
+            then record { depth = self.old.depth; to_tag = Some (length (N.list nodes.old)) }
+            else self.old) }
     {
         self.check_rule(nodes)?;
         let at = nodes.len();
-        let depth = self.depth;
-        let _ = nodes.push(&Node {
-            rule,
-            start,
-            end,
-            depth,
-            tag: None,
-        });
+        self.add(nodes, rule, start, end);
         self.to_tag = Some(at);
         Ok(())
     }
@@ -89,18 +101,18 @@ impl PairsBuilder {
         start: u32,
         end: u32,
     ) -> Result<(), BuilderFault>
-        ensures { Done (open_fault (N.Nodes.full nodes.old) self.old.depth (N.Nodes.list nodes.old)) (N.Nodes.list nodes.old) (N.Nodes.list nodes.new) self.old self.new (grown (N.Nodes.list nodes.old) rule start end self.old.depth) (self.old.depth + 1) None result }
+        ensures fault { result
+            ≡ unless (open_fault (N.full nodes.old) self.old.depth (N.list nodes.old)) tt }
+        ensures nodes { N.list nodes.new
+            ≡ (if is_ok result then grown (N.list nodes.old) rule start end self.old.depth
+            else N.list nodes.old) }
+        ensures builder { self.new
+            ≡ (if is_ok result then record { depth = self.old.depth + 1; to_tag = None }
+            else self.old) }
     {
         self.check_open(nodes)?;
-        let depth = self.depth;
-        let _ = nodes.push(&Node {
-            rule,
-            start,
-            end,
-            depth,
-            tag: None,
-        });
-        self.depth = depth + 1;
+        self.add(nodes, rule, start, end);
+        self.depth += 1;
         self.to_tag = None;
         Ok(())
     }

@@ -1,12 +1,12 @@
 //! The builder itself.
-ghost use Rattle.std.specs.Prelude.{◌≡◌, ◌≤◌, None};
+ghost use Rattle.std.specs.Prelude.{◌≡◌, None};
 
 /// How deep the next pair lies, and which node is the pair to tag.
-#[derive(Drop)]
+#[derive(PartialEq, Eq, Debug, Drop)]
 pub struct PairsBuilder {
-    pub(crate) depth: u32,
+    pub(crate) depth: u8,
+    // an index: the list is handed in at each call, and may be another
     pub(crate) to_tag: Option<usize>,
-    ghost low: { depth ≤ 255 },
 }
 
 impl PairsBuilder {

@@ -36,21 +36,21 @@ pub enum BuildFault {
     Short { needed: u64 },
 }
 
-impl BuildFault {
+impl From<BuildFault> for Refusal {
+    ghost from_gives = { λ e r. r ≡ build_refusal e };
+
     /// Numbers 1 and 2 as the text's, 3 at the labels' length, 4 at the node count, 8 at the tag's place, 9 at the depth,
     /// 10 and 11 at the node, 12 at the number of tokens needed.
-    pub fn refusal(&self) -> Refusal
-        ensures { result ≡ build_refusal self.now }
-    {
-        let (number, place) = match self {
-            BuildFault::Text(fault) => return fault.refusal(),
-            BuildFault::Labels { length } => (3, *length),
-            BuildFault::Many { count } => (4, *count),
-            BuildFault::Tag { place } => (8, *place as u64),
-            BuildFault::Open { depth } => (9, *depth as u64),
-            BuildFault::Unlawful { node } => (10, *node),
+    fn from(e: BuildFault) -> Refusal {
+        let (number, place) = match e {
+            BuildFault::Text(fault) => return Refusal::from(fault),
+            BuildFault::Labels { length } => (3, length),
+            BuildFault::Many { count } => (4, count),
+            BuildFault::Tag { place } => (8, u64::from(place)),
+            BuildFault::Open { depth } => (9, u64::from(depth)),
+            BuildFault::Unlawful { node } => (10, node),
             BuildFault::Span(fault) => (11, fault.node),
-            BuildFault::Short { needed } => (12, *needed),
+            BuildFault::Short { needed } => (12, needed),
         };
         Refusal { number, place }
     }
@@ -73,7 +73,7 @@ impl From<NodeFault> for BuildFault {
 }
 
 /// A refused build: why, and the builder handed back as it was.
-#[derive(Drop)]
+#[derive(PartialEq, Eq, Debug, Drop)]
 pub struct RefusedBuild {
     pub builder: PairsBuilder,
     pub fault: BuildFault,

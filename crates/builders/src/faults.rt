@@ -5,7 +5,7 @@ ghost use Rattle.builders.specs.Faults.{builder_refusal};
 use text::refusals::Refusal;
 
 /// What adding to a builder, closing and tagging refuse.
-#[derive(Clone, Copy, PartialEq, Eq, Debug)]
+#[derive(Clone, Copy, PartialEq, Eq, Debug, Hash)]
 pub enum BuilderFault {
     /// The list has no room for another node, or has 65,536.
     Full { count: u64 },
@@ -23,19 +23,19 @@ pub enum BuilderFault {
     Missing { count: u64 },
 }
 
-impl BuilderFault {
+impl From<BuilderFault> for Refusal {
+    ghost from_gives = { λ e r. r ≡ builder_refusal e };
+
     /// Numbers 4, 6, 7 at the node count, 5 at the depth, 8 at the tag's place, 10 at the node or, where it is missing, the count.
-    pub fn refusal(&self) -> Refusal
-        ensures { result ≡ builder_refusal self.now }
-    {
-        let (number, place) = match self {
-            BuilderFault::Full { count } => (4, *count),
-            BuilderFault::Deep { depth } => (5, *depth as u64),
-            BuilderFault::Outermost { count } => (6, *count),
-            BuilderFault::Untagged { count } => (7, *count),
-            BuilderFault::LongTag { place } => (8, *place as u64),
-            BuilderFault::Unlawful { node } => (10, *node),
-            BuilderFault::Missing { count } => (10, *count),
+    fn from(e: BuilderFault) -> Refusal {
+        let (number, place) = match e {
+            BuilderFault::Full { count } => (4, count),
+            BuilderFault::Deep { depth } => (5, u64::from(depth)),
+            BuilderFault::Outermost { count } => (6, count),
+            BuilderFault::Untagged { count } => (7, count),
+            BuilderFault::LongTag { place } => (8, u64::from(place)),
+            BuilderFault::Unlawful { node } => (10, node),
+            BuilderFault::Missing { count } => (10, count),
         };
         Refusal { number, place }
     }

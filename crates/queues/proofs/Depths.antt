@@ -1,22 +1,13 @@
 -- Which depths are lawful, from the first index that is not.
-use Rattle.std.proofs.Common.{◌≡◌, ℕ, zero, suc, ◌+◌, ◌<◌, ◌≤◌, true, cond, ◌&&◌, leb, List, [], ◌∷◌, ◌++◌, map, length, get_or, Some, None, Option, sym, refl, ap, ◌∙◌, subst, inl, inr, arith, le-leb}
+use Rattle.std.proofs.Common.{◌≡◌, ℕ, zero, suc, ◌+◌, ◌<◌, ◌≤◌, List, [], ◌∷◌, ◌++◌, map, length, get_or, None, sym, refl, subst, arith}
 use Rattle.std.proofs.lemmas.List.{append_assoc, append-nil}
-use Rattle.std.proofs.lemmas.Bool.Decides.{leb_tells}
+use Rattle.std.proofs.lemmas.Bool.Decides.{nat_tests}
 use Rattle.queues.specs.Forests.{Forest, none, pair, Row, listed}
 use Rattle.queues.specs.Lawful.{Lawful, unlawful_from, unlawful}
 
 -- what is allowed at the first index, and what follows from that
 pub allowed : (most i d : ℕ) (ds : List ℕ) → unlawful_from most i (d ∷ ds) ≡ None → (d ≤ most) × (d ≤ 255) × (unlawful_from (d + 1) (i + 1) ds ≡ None)
-allowed most i d ds e =
-    let next : Option ℕ = unlawful_from (d + 1) (i + 1) ds in
-    elim (leb_tells d most) [
-      | inl a ↦ let e₁ : cond (leb d 255) next (Some i) ≡ None = sym (ap (λ t. cond (t && leb d 255) next (Some i)) a.0) ∙ e in
-          elim (leb_tells d 255) [
-            | inl b ↦ (a.1, b.1, sym (ap (λ t. cond t next (Some i)) b.0) ∙ e₁)
-            | inr b ↦ let f : Some i ≡ None = sym (ap (λ t. cond t next (Some i)) b.0) ∙ e₁ in let z : ◌≡◌ {A = ℕ} 0 1 = cc in absurd (omega arith)
-          ]
-      | inr a ↦ let f : Some i ≡ None = sym (ap (λ t. cond (t && leb d 255) next (Some i)) a.0) ∙ e in let z : ◌≡◌ {A = ℕ} 0 1 = cc in absurd (omega arith)
-    ]
+allowed most i d ds e = grind (arith, nat_tests)
 
 -- no later one exceeds the one before by over 1
 pub record Steps (most : ℕ) (ds : List ℕ) : Type 0 where
@@ -50,11 +41,10 @@ none_steps most i (d ∷ ds) e =
 steps_none : (most i : ℕ) (ds : List ℕ) → Steps most ds → Deep ds → unlawful_from most i ds ≡ None
 steps_none most i [] s h = refl
 steps_none most i (d ∷ ds) s h =
-    let a : leb d most ≡ true = le-leb d most (s.first (omega arith)) in
-    let b : leb d 255 ≡ true = le-leb d 255 (h 0 (omega arith)) in
-    ap (λ t. cond (t && leb d 255) (unlawful_from (d + 1) (i + 1) ds) (Some i)) a
-    ∙ ap (λ t. cond (true && t) (unlawful_from (d + 1) (i + 1) ds) (Some i)) b
-    ∙ steps_none (d + 1) (i + 1) ds (steps_rest most d ds s) (λ k l. h (suc k) (omega arith))
+    let a : d ≤ most = s.first (omega arith) in
+    let b : d ≤ 255 = h 0 (omega arith) in
+    let r = steps_none (d + 1) (i + 1) ds (steps_rest most d ds s) (λ k l. h (suc k) (omega arith)) in
+    grind (arith, nat_tests)
 
 steps_lawful : (ds : List ℕ) → Steps 0 ds → Deep ds → Lawful ds
 steps_lawful ds s h =

@@ -3,6 +3,7 @@ pub mod Depths
 pub mod Kept
 pub mod Linking
 pub mod Putting
+pub mod Ranges
 pub mod Trees
 pub mod Whole
 pub mod Writing

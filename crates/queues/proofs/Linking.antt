@@ -2,10 +2,10 @@
 use Rattle.std.proofs.Common.{◌≡◌, ℕ, zero, suc, ◌+◌, ◌-◌, ◌<◌, List, [], ◌∷◌, ◌++◌, length, Some, sym, refl, ap, ◌∙◌, subst, inl, inr, arith}
 use Rattle.std.specs.List.{slice_get}
 use Rattle.std.proofs.lemmas.Bool.Decides.{leb_tells}
+use Rattle.std.proofs.lemmas.Option.{slice_get_within}
 use Rattle.queues.specs.Forests.{Forest, none, pair, Mark, starts, ends, tokens, written}
 use Rattle.queues.specs.Links.{Links}
 use Rattle.queues.proofs.Counts.{length-written}
-use Rattle.queues.proofs.Writing.{nth_drop}
 
 nth_left : {A : Type 0} (xs ys : List A) (k : ℕ) → k < length xs → slice_get (xs ++ ys) k ≡ slice_get xs k
 nth_left [] ys k h = absurd (omega arith)
@@ -32,7 +32,7 @@ meets_in i o b part marks k k' (ends j q x) eb ek at (n, p, l, h, s) =
     (o + n, p, omega arith, omega arith, at n (starts (b + k) p) s ∙ ap (λ z. Some (starts z p)) z)
 
 meets : {X : Type 0} (i : ℕ) (f : Forest X) (k : ℕ) (m : Mark X) → slice_get (written i f) k ≡ Some m → Meets i (written i f) k m
-meets i none k m e = let z : ◌≡◌ {A = ℕ} 0 1 = cc in absurd (omega arith)
+meets i none k m e = cc
 meets {X} i (pair start end x inner after) zero m e =
     let t : ℕ = tokens inner in
     let w : List (Mark X) = written (i + 1) inner in
@@ -53,7 +53,7 @@ meets {X} i (pair start end x inner after) (suc k) m e =
     elim (leb_tells (suc k) t) [
       | inl a ↦
           let at : (n : ℕ) (u : Mark X) → slice_get w n ≡ Some u → slice_get marks (1 + n) ≡ Some u = λ n u h.
-          let l : n < length w = (nth_drop w n u h).1 in
+          let l : n < length w = slice_get_within w n u h in
           let z : 1 + n ≡ suc n = omega arith in
           ap (slice_get marks) z ∙ nth_left w (ends i end x ∷ v) n l ∙ h in
           let l : k < length w = omega (arith, a.1) in
@@ -85,7 +85,7 @@ linked {X} f =
           let a : n ≡ j = omega arith in
           let b : 0 + k ≡ k = omega arith in
           let t : slice_get marks j ≡ Some (ends k q x) = ap (slice_get marks) (sym a) ∙ s ∙ ap (λ z. Some (ends z q x)) b in
-          (q, x, t, omega arith, (nth_drop marks j (ends k q x) t).1);
+          (q, x, t, omega arith, slice_get_within marks j (ends k q x) t);
       end = λ k j q x e.
           let (n, p, l, h, s) = meets 0 f k (ends j q x) e in
           let a : n ≡ j = omega arith in

@@ -1,8 +1,9 @@
 -- Writing all that lawful nodes list.
-use Rattle.std.proofs.Common.{◌≡◌, ℕ, ◌+◌, ◌*◌, ◌<◌, ◌≤◌, List, [], ◌∷◌, ◌++◌, map, length, get_or, drop, Some, None, sym, refl, ap, ◌∙◌, arith}
+use Rattle.std.proofs.Common.{◌≡◌, ℕ, ◌+◌, ◌*◌, ◌<◌, ◌≤◌, List, [], ◌++◌, map, length, get_or, drop, Some, None, sym, ap, ◌∙◌, arith}
 use Rattle.std.specs.List.{slice_get}
 use Rattle.std.proofs.lemmas.List.{append-nil, get_or-map, length-map}
-use Rattle.std.proofs.lemmas.Option.{slice_get-get_or}
+use Rattle.std.proofs.lemmas.Simd.{map-map}
+use Rattle.std.proofs.lemmas.Option.{get_or_from_slice_get, slice_get_within}
 use Rattle.queues.specs.declared.records.Node.{Node}
 use Rattle.queues.specs.declared.tokens.Token.{Token}
 use Rattle.queues.specs.Forests.{Forest, pairs, tokens, listed, written}
@@ -12,11 +13,9 @@ use Rattle.queues.specs.Writes.{Ahead, Ready, Wrote, Lists, One}
 use Rattle.queues.proofs.Counts.{length-listed, length-queue, two_each}
 use Rattle.queues.proofs.Depths.{unlawful_none}
 use Rattle.queues.proofs.Trees.{listed_same, forest_listed}
-use Rattle.queues.proofs.Writing.{nth_drop}
 
 pub depths-rows : {R : Type 0} (nodes : List (Node R)) → depths nodes ≡ map (λ r. r.depth) (rows nodes)
-depths-rows [] = refl
-depths-rows (n ∷ nodes) = ap (λ l. n.depth ∷ l) (depths-rows nodes)
+depths-rows nodes = sym (map-map (λ r. r.depth) row_of nodes)
 
 pub one_forest : {R : Type 0} (nodes : List (Node R)) → unlawful (depths nodes) ≡ None → One nodes
 one_forest nodes e =
@@ -28,10 +27,8 @@ ahead_all nodes f e = record { splits = sym e ∙ sym (append-nil (listed 0 f));
 
 depth_small : {R : Type 0} (nodes : List (Node R)) → unlawful (depths nodes) ≡ None → (k : ℕ) (n : Node R) → slice_get nodes k ≡ Some n → n.depth ≤ 255
 depth_small nodes e k n h =
-    let l : k < length nodes = (nth_drop nodes k n h).1 in
-    let s : Some n ≡ Some (get_or nodes k n) = sym h ∙ slice_get-get_or nodes k n l in
-    let m : get_or nodes k n ≡ n = cc in
-    let d : get_or (depths nodes) k 0 ≡ n.depth = get_or-map (λ n. n.depth) nodes k n 0 l ∙ ap (λ z. z.depth) m in
+    let l : k < length nodes = slice_get_within nodes k n h in
+    let d : get_or (depths nodes) k 0 ≡ n.depth = get_or-map (λ n. n.depth) nodes k n 0 l ∙ ap (λ z. z.depth) (get_or_from_slice_get nodes k n n h) in
     omega (arith, ((unlawful_none (depths nodes)).0 e).deep k (omega (arith, length-map nodes (λ n. n.depth))))
 
 pub ready_all : {R : Type 0} (nodes : List (Node R)) (room : ℕ) → unlawful (depths nodes) ≡ None → length nodes ≤ 65536 → 2 * length nodes ≤ room → Ready nodes 0 0 0 room

@@ -1,8 +1,9 @@
 -- Writing one pair and going on behind it.
-use Rattle.std.proofs.Common.{◌≡◌, ℕ, zero, suc, ◌+◌, ◌<◌, ◌≤◌, cond, List, [], ◌∷◌, ◌++◌, map, length, get_or, drop, set, Some, None, Option, sym, refl, ap, ◌∙◌, subst, inl, inr, arith}
+use Rattle.std.proofs.Common.{◌≡◌, ℕ, zero, suc, ◌+◌, ◌<◌, ◌≤◌, List, [], ◌∷◌, ◌++◌, map, length, get_or, drop, set, Some, None, Option, sym, refl, ap, ◌∙◌, subst, arith}
 use Rattle.std.specs.List.{slice_get}
-use Rattle.std.proofs.lemmas.List.{append_assoc, drop_at, drop-drop, drop-map, map-append}
-use Rattle.std.proofs.lemmas.Bool.Decides.{eqb_tells}
+use Rattle.std.proofs.lemmas.List.{append_assoc, drop_at, drop-drop, drop-map, drop_more, map-append}
+use Rattle.std.proofs.lemmas.Option.{get_or_from_slice_get, slice_get_within}
+use Rattle.std.proofs.lemmas.Bool.Decides.{nat_tests}
 use Rattle.queues.specs.declared.records.Node.{Node}
 use Rattle.queues.specs.declared.tokens.Tag.{Tag}
 use Rattle.queues.specs.declared.tokens.Token.{Token}
@@ -15,26 +16,16 @@ use Rattle.queues.proofs.Counts.{length-listed, length-queue}
 use Rattle.queues.proofs.Putting.{put_none, put_pair}
 
 of_depth_lem : {R : Type 0} (o : Option (Node R)) (d : ℕ) (n : Node R) → Some n ≡ of_depth o d → (o ≡ Some n) × (n.depth ≡ d)
-of_depth_lem None d n e = let z : ◌≡◌ {A = ℕ} 0 1 = cc in absurd (omega arith)
-of_depth_lem (Some m) d n e =
-    elim (eqb_tells m.depth d) [
-      | inl t ↦ let f : Some n ≡ Some m = e ∙ ap (λ b. cond b (Some m) None) t.0 in let k : n ≡ m = cc in (sym f, ap (λ x. x.depth) k ∙ t.1)
-      | inr t ↦ let f : Some n ≡ None = e ∙ ap (λ b. cond b (Some m) None) t.0 in let z : ◌≡◌ {A = ℕ} 0 1 = cc in absurd (omega arith)
-    ]
+of_depth_lem None d n e = cc
+of_depth_lem (Some m) d n e = grind (arith, nat_tests)
 
 of_depth_some : {R : Type 0} (n : Node R) (d : ℕ) → n.depth ≡ d → of_depth (Some n) d ≡ Some n
-of_depth_some n d e =
-    elim (eqb_tells n.depth d) [ inl t ↦ ap (λ b. cond b (Some n) None) t.0 | inr t ↦ absurd (t.1 e) ]
-
-pub nth_drop : {X : Type 0} (xs : List X) (i : ℕ) (x : X) → slice_get xs i ≡ Some x → (drop i xs ≡ x ∷ drop (suc i) xs) × (i < length xs)
-nth_drop [] i x e = let z : ◌≡◌ {A = ℕ} 0 1 = cc in absurd (omega arith)
-nth_drop (y ∷ xs) zero x e = let k : y ≡ x = cc in (ap (λ z. z ∷ xs) k, omega arith)
-nth_drop (y ∷ xs) (suc i) x e = let r = nth_drop xs i x e in (r.0, omega (arith, r.1))
+of_depth_some n d e = grind (arith, nat_tests)
 
 -- what stands first in the rest of a mapped list
 map-drop-first : {X Y : Type 0} (f : X → Y) (xs : List X) (i : ℕ) (y : Y) (ys : List Y) → drop i (map f xs) ≡ y ∷ ys → (x : X) × ((slice_get xs i ≡ Some x) × (f x ≡ y))
-map-drop-first f [] zero y ys e = let z : ◌≡◌ {A = ℕ} 0 1 = cc in absurd (omega arith)
-map-drop-first f [] (suc i) y ys e = let z : ◌≡◌ {A = ℕ} 0 1 = cc in absurd (omega arith)
+map-drop-first f [] zero y ys e = cc
+map-drop-first f [] (suc i) y ys e = cc
 map-drop-first f (x ∷ xs) zero y ys e = (x, (refl, ap (λ l. get_or l 0 y) e))
 map-drop-first f (x ∷ xs) (suc i) y ys e = map-drop-first f xs i y ys e
 
@@ -49,12 +40,13 @@ pub record Opened {R : Type 0} (nodes : List (Node R)) (node d : ℕ) (n : Node 
 pub at_node_lem : {R : Type 0} (nodes : List (Node R)) (node d : ℕ) (n : Node R) → Some n ≡ of_depth (slice_get nodes node) d → (slice_get nodes node ≡ Some n) × (n.depth ≡ d) × (node < length nodes)
 at_node_lem nodes node d n e =
     let o = of_depth_lem (slice_get nodes node) d n e in
-    (o.0, o.1, (nth_drop nodes node n o.0).1)
+    (o.0, o.1, slice_get_within nodes node n o.0)
 
 rows_ahead : {R : Type 0} (nodes : List (Node R)) (node : ℕ) (n : Node R) → slice_get nodes node ≡ Some n → drop node (rows nodes) ≡ row_of n ∷ drop (node + 1) (rows nodes)
 rows_ahead nodes node n e =
-    let s : suc node ≡ node + 1 = omega arith in
-    drop-map row_of node nodes ∙ ap (map row_of) (nth_drop nodes node n e).0 ∙ ap (λ l. row_of n ∷ l) (sym (drop-map row_of (suc node) nodes) ∙ ap (λ k. drop k (rows nodes)) s)
+    drop-map row_of node nodes
+    ∙ ap (map row_of) (drop_more nodes node n (slice_get_within nodes node n e) ∙ ap (λ m. m ∷ drop (node + 1) nodes) (get_or_from_slice_get nodes node n n e))
+    ∙ ap (λ l. row_of n ∷ l) (sym (drop-map row_of (node + 1) nodes))
 
 pub opened : {R : Type 0} (nodes : List (Node R)) (node d : ℕ) (n : Node R) (g : Forest (Carried R)) (rest : List (Row (Carried R))) → Some n ≡ of_depth (slice_get nodes node) d → Ahead nodes node d g rest → Opened nodes node d n g rest
 opened nodes node d n none rest e a =
@@ -85,8 +77,7 @@ closed nodes node d none rest e a = refl
 closed nodes node d (pair start end x inner after) rest e a =
     let m = map-drop-first row_of nodes node (record { start = start; end = end; depth = d; x = x }) ((listed (d + 1) inner ++ listed d after) ++ rest) a.splits in
     let f : None ≡ Some m.0 = e ∙ ap (λ o. of_depth o d) m.1.0 ∙ of_depth_some m.0 d (ap (λ r. r.depth) m.1.1) in
-    let z : ◌≡◌ {A = ℕ} 0 1 = cc in
-    absurd (omega arith)
+    cc
 
 -- what is left to write gives the same result as all of it did
 pub record Going {R : Type 0} (nodes : List (Node R)) (d node₀ token₀ : ℕ) (out₀ : List (Token R)) (f : Forest (Carried R)) (rest : List (Row (Carried R))) (node token : ℕ) (out : List (Token R)) : Type 0 where
@@ -168,3 +159,17 @@ step {nodes = nodes} {d = d} {node = node} {token = token} {n = n} p t e =
       shallow = omega (arith, p.deep node n h.0, h.1);
       within = h.2;
     }
+
+-- where the call for the pairs inside leads
+pub record Inside {R : Type 0} (nodes : List (Node R)) (node token room node' token' : ℕ) : Type 0 where
+  pub within : node < length nodes
+  pub onward : node < node'
+  pub later : token < token'
+  pub fits : token' < room
+  pub small : token' < 131072
+
+pub inside : {R : Type 0} {nodes : List (Node R)} {d node₀ token₀ room : ℕ} {out₀ : List (Token R)} {node token : ℕ} {out : List (Token R)} {n : Node R} {node' token' : ℕ} {mid : List (Token R)} → Ready nodes node₀ token₀ d room → Turn nodes d node₀ token₀ out₀ node token out → Some n ≡ of_depth (slice_get nodes node) d → ((f : Forest (Carried R)) (rest : List (Row (Carried R))) → Ahead nodes (node + 1) (d + 1) f rest → Wrote f (node + 1) (token + 1) node' token' out mid) → Inside nodes node token room node' token'
+inside p t e call =
+    let s = step p t e in
+    let w = call s.inner s.rest s.nested in
+    record { within = s.within; onward = omega (arith, w.next_node); later = omega (arith, w.next_token); fits = omega (arith, w.next_token, s.fits); small = omega (arith, w.next_token, s.small) }

@@ -1,5 +1,5 @@
 -- What writing a queue from a list of nodes does.
-use Rattle.std.specs.Prelude.{◌≡◌, ℕ, ◌+◌, ◌*◌, ◌<◌, ◌≤◌, Bool, cond, not, ◌&&◌, List, [], ◌∷◌, ◌++◌, length, take, drop, is_some, Some, None, Option, ◌==◌, nat_le}
+use Rattle.std.specs.Prelude.{◌≡◌, ℕ, ◌+◌, ◌*◌, ◌<◌, ◌≤◌, Bool, not, ◌&&◌, List, [], ◌∷◌, ◌++◌, length, take, drop, is_some, Some, None, Option, ◌==◌, nat_le, if◌then◌else◌}
 use Rattle.std.specs.List.{slice_get}
 use Rattle.queues.specs.declared.records.Node.{Node}
 use Rattle.queues.specs.declared.tokens.Token.{Token}
@@ -10,7 +10,7 @@ use Rattle.queues.specs.Records.{Carried, depths, rows, queue}
 -- a node, if it has this depth
 abbrev pub of_depth : {R : Type 0} → Option (Node R) → ℕ → Option (Node R)
 of_depth None depth = None
-of_depth (Some n) depth = cond (n.depth == depth) (Some n) None
+of_depth (Some n) depth = if n.depth == depth then Some n else None
 
 -- these in place of as many from the index i on
 abbrev pub put : {A : Type 0} → ℕ → List A → List A → List A

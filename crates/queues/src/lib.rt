@@ -1,6 +1,7 @@
 //! Nodes with their depths, the forest that they list, and the queue of tokens that it writes.
 #![tactic(auto)]
 
+pub mod listing;
 pub mod nodes;
 pub mod pushes;
 pub mod records;

@@ -6,6 +6,8 @@ ghost use Rattle.queues.specs.Records.{depths};
 use crate::records::Node;
 
 /// The nodes at the front of a slice; those past them are no part of the list.
+// The caller lends the memory, so this is a slice with a length. What lies past the length is no part of the list, so
+// equality is not derived.
 #[derive(Drop)]
 pub struct SliceNodes<'n, R> {
     pub(crate) nodes: &'n mut [Node<R>],

@@ -1,4 +1,5 @@
 //! The codes of the grammars' rules, and which rules there are.
+use crate::codes::have_no_rule;
 use rules::rule_types::turned_back;
 use rules::{GrammarRule, RuleType};
 use std::test::Fail;
@@ -18,11 +19,8 @@ const CODES: [(u32, u8, u16); 8] = [
 #[test]
 fn each_rule_has_its_code(rt: HostRuntime) -> Result<(), Fail> {
     assert_eq!(rt; GrammarRule::CODES, 65_536);
-    assert_eq!(rt; GrammarRule::count(), 65_536);
     for (code, grammar, number) in CODES {
-        let Some(rule) = GrammarRule::new(grammar, number) else {
-            return Err(Fail::new("no such rule"));
-        };
+        let rule = GrammarRule::new(grammar, number).ok_or_else(|| Fail::new("no such rule"))?;
         assert_eq!(rt; (rule.grammar(), rule.number()), (grammar, number));
         assert_eq!(rt; rule.code(), code);
         assert_eq!(rt; GrammarRule::from_code(code), Some(rule));
@@ -33,9 +31,7 @@ fn each_rule_has_its_code(rt: HostRuntime) -> Result<(), Fail> {
 
 #[test]
 fn no_rule_has_another_code(rt: HostRuntime) {
-    for code in [65_536, 69_631, 4_294_967_295] {
-        assert_eq!(rt; GrammarRule::from_code(code), None);
-    }
+    assert!(rt; have_no_rule::<GrammarRule>([65_536, 69_631, 4_294_967_295]));
 }
 
 #[test]

@@ -1,4 +1,5 @@
 //! The codes of the plant's rules.
+use crate::codes::have_no_rule;
 use rules::rule_types::turned_back;
 use rules::{PlantRule, RuleType};
 
@@ -20,7 +21,6 @@ const RULES: [(u32, PlantRule); 12] = [
 #[test]
 fn each_rule_has_its_code(rt: HostRuntime) {
     assert_eq!(rt; PlantRule::CODES, 12);
-    assert_eq!(rt; PlantRule::count(), 12);
     for (code, rule) in RULES {
         assert_eq!(rt; rule.code(), code);
         assert_eq!(rt; PlantRule::from_code(code), Some(rule));
@@ -30,7 +30,5 @@ fn each_rule_has_its_code(rt: HostRuntime) {
 
 #[test]
 fn no_rule_has_another_code(rt: HostRuntime) {
-    for code in [12, 65_535, 4_294_967_295] {
-        assert_eq!(rt; PlantRule::from_code(code), None);
-    }
+    assert!(rt; have_no_rule::<PlantRule>([12, 65_535, 4_294_967_295]));
 }

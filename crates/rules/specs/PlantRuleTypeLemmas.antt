@@ -1,7 +1,7 @@
 -- Each code below twelve has its rule: a rule in a list whose codes go up by one from k on.
-use Rattle.std.specs.Prelude.{◌≡◌, ℕ, zero, suc, ◌+◌, ◌<◌, Bool, true, ◌&&◌, T, List, [], ◌∷◌, length, ◌==◌}
-use Rattle.std.proofs.Common.{arith, eqb→eq}
-use mir.ValLaws.{and_both}
+use Rattle.std.specs.Prelude.{◌≡◌, ℕ, zero, suc, ◌+◌, ◌<◌, Bool, true, ◌&&◌, IsTrue, List, [], ◌∷◌, length, ◌==◌}
+use Rattle.std.proofs.Common.{arith}
+use Rattle.std.proofs.lemmas.Grind.{common_steps}
 use Rattle.rules.specs.declared.plant.PlantRule.{PlantRule}
 use Rattle.rules.specs.Codes.{plant_code}
 
@@ -10,11 +10,9 @@ abbrev pub in_turn : ℕ → List PlantRule → Bool
 in_turn k [] = true
 in_turn k (x ∷ xs) = plant_code x == k && in_turn (suc k) xs
 
-pub nth : (k n : ℕ) (xs : List PlantRule) → T (in_turn k xs) → n < length xs → (x : PlantRule) × (plant_code x ≡ k + n)
+pub nth : (k n : ℕ) (xs : List PlantRule) → IsTrue (in_turn k xs) → n < length xs → (x : PlantRule) × (plant_code x ≡ k + n)
 nth k n [] t h = absurd (omega arith)
-nth k zero (x ∷ xs) t h =
-    let e : plant_code x ≡ k = eqb→eq (plant_code x) k (and_both (plant_code x == k) (in_turn (suc k) xs) t).0 in
-    (x, omega (arith, e))
+nth k zero (x ∷ xs) t h = (x, grind (arith, common_steps))
 nth k (suc n) (x ∷ xs) t h =
-    let r = nth (suc k) n xs (and_both (plant_code x == k) (in_turn (suc k) xs) t).1 (omega arith) in
+    let r = nth (suc k) n xs (grind (arith, common_steps)) (omega arith) in
     (r.0, omega (arith, r.1))

@@ -1,12 +1,12 @@
 //! The rules of sixteen grammars.
-ghost use Rattle.std.specs.Prelude.{◌≡◌, ◌/◌, ◌%◌, ◌≤◌, MatchOption};
+ghost use Rattle.std.specs.Prelude.{◌≡◌, ◌/◌, ◌%◌, ◌≤◌, ◌↔◌, IsSome, IfSome};
 ghost use Rattle.rules.specs.Codes.{grammar_code};
 ghost use Rattle.std.proofs.Common.{arith, rules};
 
 use crate::rule_types::RuleType;
 
 /// A rule by its grammar, 0 to 15, and its number there, 0 to 4,095.
-#[derive(Clone, Copy, PartialEq, Eq, Debug)]
+#[derive(Clone, Copy, Debug, PartialEq, Eq, Hash, PartialOrd, Ord)]
 pub struct GrammarRule {
     grammar: u8,
     number: u16,
@@ -17,7 +17,8 @@ pub struct GrammarRule {
 impl GrammarRule {
     /// The grammar's rule of that number, or None where the grammar is over 15 or the number over 4,095.
     pub fn new(grammar: u8, number: u16) -> Option<GrammarRule>
-        ensures { MatchOption result (grammar ≤ 15 → number ≤ 4095 → ⊥) (λ x. (x.grammar ≡ grammar) × (x.number ≡ number)) }
+        ensures valid { IsSome result ↔ ((grammar ≤ 15) × (number ≤ 4095)) }
+        ensures value { IfSome result (λ x. (x.grammar ≡ grammar) × (x.number ≡ number)) }
     {
         if grammar > 15 || number > 4095 {
             return None;
@@ -40,11 +41,24 @@ impl GrammarRule {
     }
 }
 
+/// The rule with the code 0.
+// by hand: `Default` cannot be derived for a struct with a ghost field
+impl Default for GrammarRule {
+    ghost is_default = { λ x. (x.grammar ≡ 0) × (x.number ≡ 0) };
+
+    fn default() -> GrammarRule {
+        GrammarRule {
+            grammar: 0,
+            number: 0,
+        }
+    }
+}
+
 /// The codes 0 to 65,535: 4,096 of each grammar.
 impl RuleType for GrammarRule {
     const CODES: u32 = 65_536;
 
-    ghost codes = { 65536 };
+    ghost CODES = { 65536 };
 
     ghost coded = { λ x. grammar_code x.grammar x.number };
 
@@ -54,7 +68,15 @@ impl RuleType for GrammarRule {
 
     ghost apart = { Prim.grind (arith, Self.row.coded.inj) };
 
-    ghost each = { λ n h. (record { grammar = n / 4096; number = n % 4096; few = Prim.omega arith; small = Prim.omega arith }, Prim.omega arith) };
+    ghost each = { λ n h. (
+      record {
+        grammar = n / 4096;
+        number = n % 4096;
+        few = Prim.omega arith;
+        small = Prim.omega arith;
+      },
+      Prim.omega arith,
+    ) };
 
     fn code(self) -> u32 {
         let GrammarRule { grammar, number } = self;
@@ -62,16 +84,7 @@ impl RuleType for GrammarRule {
     }
 
     fn from_code(code: u32) -> Option<GrammarRule> {
-        if code >= Self::CODES {
-            return None;
-        }
-        Some(GrammarRule {
-            grammar: (code / 4096) as u8,
-            number: (code % 4096) as u16,
-        })
-    }
-
-    fn count() -> u32 {
-        Self::CODES
+        let grammar = u8::try_from(code / 4096).ok()?;
+        GrammarRule::new(grammar, (code % 4096) as u16)
     }
 }

@@ -1,6 +1,6 @@
 //! The plant's rules: twelve, by name.
 ghost use Rattle.rules.specs.Codes.{plant_code};
-ghost use Rattle.std.specs.Prelude.{List, [], ◌∷◌};
+ghost use Rattle.std.specs.Prelude.{List, [], ◌∷◌, refl};
 ghost use Rattle.std.proofs.Common.{arith, rules};
 ghost use Rattle.rules.specs.declared.plant.PlantRule.{PlantRule};
 ghost use Rattle.rules.specs.declared.plant.PlantRule.TheVariants.{Line, Stamp, Plant, Key, Value, Unit, Brine, Setpoint, Alarm, Note, Comment, End};
@@ -9,8 +9,9 @@ ghost use Rattle.rules.specs.PlantRuleTypeLemmas.{nth};
 use crate::rule_types::RuleType;
 
 /// One of the plant's rules.
-#[derive(Clone, Copy, PartialEq, Eq, Debug)]
+#[derive(Clone, Copy, Debug, PartialEq, Eq, Hash, PartialOrd, Ord, Default)]
 pub enum PlantRule {
+    #[default]
     Line,
     Stamp,
     Plant,
@@ -29,7 +30,7 @@ pub enum PlantRule {
 impl RuleType for PlantRule {
     const CODES: u32 = 12;
 
-    ghost codes = { 12 };
+    ghost CODES = { 12 };
 
     ghost coded = { plant_code };
 
@@ -41,7 +42,7 @@ impl RuleType for PlantRule {
 
     ghost each = { λ n h.
         let all : List PlantRule = Line ∷ Stamp ∷ Plant ∷ Key ∷ Value ∷ Unit ∷ Brine ∷ Setpoint ∷ Alarm ∷ Note ∷ Comment ∷ End ∷ [] in
-        let r = nth 0 n all tt h in
+        let r = nth 0 n all refl h in
         (r.0, Prim.omega (arith, r.1)) };
 
     fn code(self) -> u32 {
@@ -64,9 +65,5 @@ impl RuleType for PlantRule {
             11 => Some(PlantRule::End),
             _ => None,
         }
-    }
-
-    fn count() -> u32 {
-        Self::CODES
     }
 }

@@ -6,31 +6,28 @@ pub trait RuleType: Sized + Copy {
     /// How many codes the type has, at most 65,536.
     const CODES: u32;
 
-    // how many codes the type has
-    ghost codes: { ℕ };
+    // the constant, for clauses
+    ghost CODES: { ℕ };
 
     // the code of a rule
     ghost coded: { Self → ℕ };
 
     /// The code of the rule.
+    // `From` and `TryFrom` would be asked of each rule type beside this trait, and would be no plainer.
     fn code(self) -> u32
         ensures { result ≡ coded self };
 
     /// The rule that has the code, or None where no rule has it: from the number of codes on.
     fn from_code(code: u32) -> Option<Self>
-        ensures { MatchOption result (codes ≤ code) (λ x. coded x ≡ code) };
+        ensures { MatchOption result (CODES ≤ code) (λ x. coded x ≡ code) };
 
-    /// How many codes the type has: `CODES`, with a contract, which a constant cannot have.
-    fn count() -> u32
-        ensures { result ≡ codes };
+    ghost few: { CODES ≤ 65536 };
 
-    ghost few: { codes ≤ 65536 };
-
-    ghost below: { (x : Self) → coded x < codes };
+    ghost below: { (x : Self) → coded x < CODES };
 
     ghost apart: { (x y : Self) → coded x ≡ coded y → x ≡ y };
 
-    ghost each: { (n : ℕ) → n < codes → (x : Self) × (coded x ≡ n) };
+    ghost each: { (n : ℕ) → n < CODES → (x : Self) × (coded x ≡ n) };
 }
 
 /// The rule that has the code of `rule`: `rule` itself, and never None, whatever the rule type.
