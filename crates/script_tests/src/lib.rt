@@ -30,23 +30,6 @@ mod tests {
         }
     }
 
-    // `count` times a byte between two parts.
-    fn filled(
-        heap: Global,
-        front: &[u8],
-        byte: u8,
-        count: usize,
-        back: &[u8],
-    ) -> Result<Vec<u8>, AllocError> {
-        let mut script = Vec::new(heap);
-        script.extend_from_slice(front)?;
-        for _ in 0..count {
-            script.push(byte)?;
-        }
-        script.extend_from_slice(back)?;
-        Ok(script)
-    }
-
     // Scripts with a text and no pairs.
     #[test]
     fn no_pairs(rt: HostRuntime) -> Result<(), Fail> {
@@ -249,19 +232,19 @@ mod tests {
         );
         let deeper = repeated(heap, b"plant\n", b"open 1 0 0\n", 256, b"show\n")?;
         refuses(&rt, heap, deeper.as_slice(), "refused 5 255 257")?;
-        let tagged = filled(
+        let tagged = repeated(
             heap,
             b"plant\nrule 1 0 0\ntag abc\ntag ",
-            b't',
+            b"t",
             255,
             b"\nshow\n",
         )?;
-        let record = filled(heap, b"1 2\n0 1 0 0 1 1 =", b't', 255, b"\n")?;
+        let record = repeated(heap, b"1 2\n0 1 0 0 1 1 =", b"t", 255, b"\n")?;
         prints(&rt, heap, tagged.as_slice(), record.as_slice())?;
-        let long = filled(
+        let long = repeated(
             heap,
             b"plant\nrule 1 0 0\ntag abc\ntag ",
-            b't',
+            b"t",
             256,
             b"\nshow\n",
         )?;
@@ -352,46 +335,46 @@ mod tests {
     #[test]
     fn sizes(rt: HostRuntime) -> Result<(), Fail> {
         let heap = rt.alloc();
-        let full = filled(heap, b"plant\ntext ", b'a', 32751, b"\nshow\n")?;
+        let full = repeated(heap, b"plant\ntext ", b"a", 32751, b"\nshow\n")?;
         prints(&rt, heap, full.as_slice(), b"0 0\n")?;
-        let unended = filled(heap, b"plant\ntext ", b'a', 32752, b"\nshow")?;
+        let unended = repeated(heap, b"plant\ntext ", b"a", 32752, b"\nshow")?;
         prints(&rt, heap, unended.as_slice(), b"0 0\n")?;
-        let over = filled(heap, b"plant\ntext ", b'a', 32752, b"\nshow\n")?;
+        let over = repeated(heap, b"plant\ntext ", b"a", 32752, b"\nshow\n")?;
         refuses(&rt, heap, over.as_slice(), "refused 18 32768 3")?;
         refuses(
             &rt,
             heap,
-            filled(heap, b"", b'\n', 32768, b"")?.as_slice(),
+            repeated(heap, b"", b"\n", 32768, b"")?.as_slice(),
             "refused 18 0 1",
         )?;
         refuses(
             &rt,
             heap,
-            filled(heap, b"", b'\n', 32769, b"")?.as_slice(),
+            repeated(heap, b"", b"\n", 32769, b"")?.as_slice(),
             "refused 18 32768 32769",
         )?;
         refuses(
             &rt,
             heap,
-            filled(heap, b"", b'a', 32768, b"")?.as_slice(),
+            repeated(heap, b"", b"a", 32768, b"")?.as_slice(),
             "refused 18 0 1",
         )?;
         refuses(
             &rt,
             heap,
-            filled(heap, b"", b'a', 32768, b"\n")?.as_slice(),
+            repeated(heap, b"", b"a", 32768, b"\n")?.as_slice(),
             "refused 18 32768 1",
         )?;
         refuses(
             &rt,
             heap,
-            filled(heap, b"plant\nshow\n", b'\n', 40000, b"")?.as_slice(),
+            repeated(heap, b"plant\nshow\n", b"\n", 40000, b"")?.as_slice(),
             "refused 18 32768 32760",
         )?;
         refuses(
             &rt,
             heap,
-            filled(heap, b"plant\ntext \xFF\n", b'a', 32755, b"")?.as_slice(),
+            repeated(heap, b"plant\ntext \xFF\n", b"a", 32755, b"")?.as_slice(),
             "refused 18 13 3",
         )
     }

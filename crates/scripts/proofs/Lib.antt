@@ -1,6 +1,5 @@
-pub mod Cuts
-pub mod Digits
 pub mod Turns
+pub mod Cursors
 pub mod Stepping
 pub mod Written
 pub mod Building

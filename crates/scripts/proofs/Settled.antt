@@ -1,69 +1,60 @@
 -- What an outcome comes to at the test of its text.
-use Rattle.std.proofs.Common.{◌≡◌, ℕ, ◌+◌, ◌-◌, ◌<◌, ◌≤◌, List, [], ◌∷◌, length, take, Some, None, Ok, Err, Option, Result, sym, refl, ap, ◌∙◌, subst, arith}
-use Rattle.std.proofs.lemmas.Bool.{le-ltb, lt-ltb}
+use Rattle.std.proofs.Common.{◌≡◌, ℕ, ◌+◌, ◌-◌, ◌≤◌, List, [], ◌∷◌, length, Some, None, Ok, Err, Option, Result, MatchResult, sym, refl, ap, ◌∙◌, arith}
+use Rattle.std.proofs.lemmas.Bool.{le-ltb}
+use Rattle.text.specs.Refusing.{unless}
 use Rattle.text.proofs.Lawful.{one_verdict}
-use Rattle.scripts.specs.Lines.{lines}
+use Rattle.scripts.specs.Lines.{first_line, lines}
 use Rattle.builders.specs.Builds.{judged as built}
+use Rattle.builders.specs.Queues.{fault_of}
 use Rattle.builders.specs.declared.builds.BuildFault.{BuildFault}
+use Rattle.builders.specs.declared.builds.RefusedBuild.{RefusedBuild}
 use Rattle.queues.specs.declared.records.Node.{Node}
-use Rattle.scripts.specs.Outcomes.{Outcome, refused, shown, shown_before, after_show, blank, line_after, line_refusal, outcome, script_limit, sized, started}
-use Rattle.scripts.specs.Reading.{Builds, Built, Fails, Settles, followed, judged, token_limit}
-use Rattle.scripts.specs.Records.{record_of}
-use Rattle.scripts.specs.Steps.{Drawn, Stops, drawn, error_at}
-use Rattle.scripts.specs.declared.problems.Problem.{Problem}
-use Rattle.scripts.specs.declared.problems.Problem.TheVariants.{Fault, NoRoom}
+use Rattle.scripts.specs.Outcomes.{Outcome, refused, shown, shown_before, after_show, line_refusal, outcome, script_limit, sized, started}
+use Rattle.scripts.specs.Reading.{Built, BuiltAt, Fails, Settles, judged, printed, token_limit}
+use Rattle.scripts.specs.Steps.{Drawn, StopsAt, drawn}
 use Rattle.scripts.specs.declared.faults.ScriptFault.{ScriptFault}
+use Rattle.scripts.specs.declared.faults.ScriptFault.TheVariants.{Build}
 use Rattle.scripts.specs.declared.faults.ScriptError.{ScriptError}
 use Rattle.scripts.specs.declared.faults.ScriptError.TheVariants.{Refused, NoMemory}
 use Rattle.scripts.specs.declared.faults.ScriptRefusal.{ScriptRefusal}
 use Rattle.scripts.proofs.Turns.{lines_step}
 
 -- the size comes first
-pub over : (script : List ℕ) → script_limit < length script → Err (line_refusal (line_after (take script_limit script)) script_limit) ≡ sized script
-over script h = rw (lt-ltb script_limit (length script) h)
-
 pub under : (script : List ℕ) → length script ≤ script_limit → Ok tt ≡ sized script
 under script h = rw (le-ltb script_limit (length script) h)
 
 pub within : (script : List ℕ) → length script ≤ script_limit → outcome script ≡ started script
 within script h = rw (← under script h)
 
--- nothing is made yet
-pub blank_as : (text labels : List ℕ) (nodes : List (Node ℕ)) (depth : ℕ) (to : Option ℕ) → text ≡ [] → labels ≡ [] → nodes ≡ [] → depth ≡ 0 → to ≡ None → drawn text labels nodes depth to ≡ blank
-blank_as text labels nodes depth to a b c d e = cc
-
 pub settled : {o : Outcome} {f g : ScriptRefusal} → o ≡ refused f → g ≡ f → Settles o (Err g)
 settled e is = rw e (ap Err is)
 
-pub carried : {o before : Outcome} (a : Result (List ℕ) ScriptRefusal) → before ≡ o → Settles o a → Settles before a
-carried a e s = rw e s
+pub stopped : {o : Outcome} (n : ℕ) (e : ScriptError) (meant : Result Drawn ScriptFault) → ((f : ScriptFault) → meant ≡ Err f → o ≡ refused (record { line = n; fault = f })) → StopsAt n meant e → Fails o e
+stopped n (Refused f) meant by s = settled (by f.fault s.1) (ap (λ (k : ℕ). record { line = k; fault = f.fault }) s.0)
+stopped n NoMemory meant by s = tt
 
--- so is an error, which may be want of memory
-pub carried_error : {o before : Outcome} (e : ScriptError) → before ≡ o → Fails o e → Fails before e
-carried_error (Refused f) is s = carried (Err f) is s
-carried_error NoMemory is s = tt
+-- a draft by parts that are what its own are
+pub drawn_as : {text text' labels labels' : List ℕ} {nodes nodes' : List (Node ℕ)} (depth : ℕ) (to : Option ℕ) → text ≡ text' → labels ≡ labels' → nodes ≡ nodes' → drawn text labels nodes depth to ≡ drawn text' labels' nodes' depth to
+drawn_as depth to a b c = cc
 
-pub stopped : {o : Outcome} (n : ℕ) (p : Problem) (e : ScriptError) (meant : Result Drawn ScriptFault) → e ≡ error_at n p → ((f : ScriptFault) → meant ≡ Err f → o ≡ refused (record { line = n; fault = f })) → Stops meant p → Fails o e
-stopped n (Fault f) e meant is by s = rw is (settled (by f s) refl)
-stopped n NoRoom e meant is by s = rw is tt
-
--- what is built, in other words
-pub builds_as : (depth : ℕ) (nodes : List (Node ℕ)) (text text' labels labels' : List ℕ) (r : Result ℕ ScriptFault) → text ≡ text' → labels ≡ labels' → Builds depth nodes text labels r → Builds depth nodes text' labels' r
-builds_as depth nodes text text' labels labels' r a b h = subst (λ (t : List ℕ). Builds depth nodes t labels' r) a (subst (λ (l : List ℕ). Builds depth nodes text l r) b h)
+-- what a build answers, as the script's
+pub built_at : (line : ℕ) (d : Drawn) (r : Result ℕ RefusedBuild) (s : Result ℕ ScriptRefusal) → Built d (fault_of r) → MatchResult r (λ n. s ≡ Ok n) (λ b. s ≡ Err (record { line = line; fault = Build b.fault })) → BuiltAt line d s
+built_at line d (Ok n) s p is = rw is p
+built_at line d (Err b) s p is = rw is (b.fault, (p, refl))
 
 -- the three ways at `show`
-pub fails : (line depth : ℕ) (text labels : List ℕ) (nodes : List (Node ℕ)) (to : Option ℕ) (next : Option ScriptRefusal) (f : ScriptFault) → Builds depth nodes text labels (Err f) → Settles (shown (drawn text labels nodes depth to) line next) (Err (record { line = line; fault = f }))
-fails line depth text labels nodes to next f p = (Err p.0, (p.1.0, ap (λ g. Err (record { line = line; fault = g })) p.1.1))
+pub fails : (line : ℕ) (d : Drawn) (next : Option ScriptRefusal) (f : ScriptRefusal) → BuiltAt line d (Err f) → Settles (shown d line next) (Err f)
+fails line d next f p = (Err p.0, (p.1.0, ap Err p.1.1))
 
-pub follows : (size line depth n : ℕ) (text labels after : List ℕ) (nodes : List (Node ℕ)) (to : Option ℕ) (f : ScriptRefusal) → Builds depth nodes text labels (Ok n) → (length after ≡ 0 → ⊥) → f ≡ line_refusal (line + 1) (size - length after) → Settles (shown_before size line (drawn text labels nodes depth to) after) (Err f)
-follows size line depth n text labels [] nodes to f p ne is = absurd (ne refl)
-follows size line depth n text labels (b ∷ bs) nodes to f p ne is =
+pub follows : (size line n : ℕ) (d : Drawn) (after l rest : List ℕ) (f : ScriptRefusal) → BuiltAt line d (Ok n) → Some (l, rest) ≡ first_line after → f ≡ line_refusal (line + 1) (size - length after) → Settles (shown_before size line d after) (Err f)
+follows size line n d [] l rest f p some is = let z : ◌≡◌ {A = ℕ} 0 1 = cc in absurd (omega arith)
+follows size line n d (b ∷ bs) l rest f p some is =
     let e : after_show (line + 1) (size - length (b ∷ bs)) (lines (b ∷ bs)) ≡ Some (line_refusal (line + 1) (size - length (b ∷ bs))) = rw (lines_step b bs) in
-    (Ok n, (p, ap Err is ∙ sym (ap (followed (record_of text labels nodes n)) e)))
+    (Ok n, (p, ap Err is ∙ sym (ap (λ o. unless o (printed d n)) e)))
 
-pub ends : (size line depth n : ℕ) (text labels after bytes : List ℕ) (nodes : List (Node ℕ)) (to : Option ℕ) → Builds depth nodes text labels (Ok n) → length after ≡ 0 → bytes ≡ record_of text labels nodes n → Settles (shown_before size line (drawn text labels nodes depth to) after) (Ok bytes)
-ends size line depth n text labels [] bytes nodes to p none is = (Ok n, (p, ap Ok is))
-ends size line depth n text labels (b ∷ bs) bytes nodes to p none is = absurd (omega arith)
+pub ends : (size line n : ℕ) (d : Drawn) (after bytes : List ℕ) → BuiltAt line d (Ok n) → first_line after ≡ None → bytes ≡ printed d n → Settles (shown_before size line d after) (Ok bytes)
+ends size line n d [] bytes p none is = (Ok n, (p, ap Ok is))
+ends size line n d (b ∷ bs) bytes p none is = let z : ◌≡◌ {A = ℕ} 0 1 = cc in absurd (omega arith)
 
 one_built : (d : Drawn) (a b : Result ℕ BuildFault) → Built d a → Built d b → a ≡ b
 one_built (drawn text labels nodes depth to) a b p q =

@@ -1,48 +1,48 @@
 -- One line of a script after another.
-use Rattle.std.proofs.Common.{◌≡◌, ℕ, ◌+◌, ◌-◌, ◌<◌, ◌≤◌, true, false, cond, eqb, ◌⊎◌, List, [], ◌∷◌, length, Some, None, Ok, Err, refl, ap, inl, inr, arith}
+use Rattle.std.proofs.Common.{◌≡◌, ℕ, ◌+◌, ◌-◌, ◌≤◌, true, false, eqb, ◌⊎◌, List, [], ◌∷◌, length, Some, None, Ok, Err, refl, sym, ap, inl, inr, arith}
+use Rattle.std.proofs.Math.Numerals.{add-one, one-add}
+use Rattle.std.specs.List.{onto_first, position_or_len}
+use Rattle.std.proofs.lemmas.Bool.{cases_Bool, cases_lt}
+use Rattle.std.proofs.lemmas.Option.{some_pair_parts, none-some}
+use Rattle.std.proofs.lemmas.List.{drop_all, length-drop, length-take}
 use Rattle.scripts.specs.Parts.{up_to, behind}
-use Rattle.scripts.specs.Lines.{lines, in_front, first_line}
+use Rattle.scripts.specs.Lines.{lines, first_line}
 use Rattle.scripts.specs.Commands.{Order, ending, line_order}
 use Rattle.scripts.specs.Kinds.{kind_codes, kind_of}
 use Rattle.scripts.specs.Steps.{Drawn, stepped}
 use Rattle.scripts.specs.declared.faults.ScriptFault.{ScriptFault}
-use Rattle.scripts.proofs.Digits.{up_to_length}
 use Rattle.scripts.specs.declared.kinds.Kind.{Kind}
+use Rattle.scripts.specs.declared.numbers.Misread.{Misread}
 use Rattle.scripts.specs.Outcomes.{refused, shown, line_refusal, after_show, blank, body, left, shown_before, started}
 
 -- the first line and the lines after it
 pub lines_step : (b : ℕ) (bs : List ℕ) → lines (b ∷ bs) ≡ up_to 10 (b ∷ bs) ∷ lines (behind 10 (b ∷ bs))
-lines_step b [] = elim (eqb b 10) as (λ t. cond t ([] ∷ []) (in_front b []) ≡ cond t [] (b ∷ []) ∷ lines (cond t [] [])) [ true ↦ refl | false ↦ refl ]
+lines_step b [] = elim (cases_Bool (eqb b 10)) [ inl e ↦ rw e | inr e ↦ rw e ]
 lines_step b (d ∷ bs) =
-    elim (eqb b 10) as (λ t. cond t ([] ∷ lines (d ∷ bs)) (in_front b (lines (d ∷ bs))) ≡ cond t [] (b ∷ up_to 10 (d ∷ bs)) ∷ lines (cond t (d ∷ bs) (behind 10 (d ∷ bs))))
-    [ true ↦ refl | false ↦ ap (in_front b) (lines_step d bs) ]
+    elim (cases_Bool (eqb b 10)) [
+      | inl e ↦ rw e
+      | inr e ↦ rw e (simp (one-add, add-one) (simp (one-add, add-one) at (ap (onto_first b) (lines_step d bs))))
+    ]
 
 -- either nothing stands behind the stop, or the parts make up the whole
 parts_length : (stop : ℕ) (bs : List ℕ) → (behind stop bs ≡ []) ⊎ (length bs ≡ length (up_to stop bs) + 1 + length (behind stop bs))
-parts_length stop [] = inl refl
-parts_length stop (b ∷ bs) =
-    elim (eqb b stop) as (λ t. (cond t bs (behind stop bs) ≡ []) ⊎ (length (b ∷ bs) ≡ length (cond t [] (b ∷ up_to stop bs)) + 1 + length (cond t bs (behind stop bs)))) [
-      | true ↦ inr (omega arith)
-      | false ↦ elim (parts_length stop bs) [ inl e ↦ inl e | inr e ↦ inr (omega arith) ]
+parts_length stop bs =
+    let n = position_or_len (λ b. eqb b stop) bs in
+    elim (cases_lt n (length bs)) [
+      | inl h ↦ inr (omega (arith, length-take n bs, length-drop (n + 1) bs))
+      | inr h ↦ inl (drop_all (n + 1) bs (omega arith))
     ]
-
-behind_shorter : (b : ℕ) (bs : List ℕ) → length (behind 10 (b ∷ bs)) < length (b ∷ bs)
-behind_shorter b [] = elim (eqb b 10) as (λ t. length (cond {A = List ℕ} t [] []) < length (b ∷ [])) [ true ↦ omega arith | false ↦ omega arith ]
-behind_shorter b (d ∷ bs) = elim (eqb b 10) as (λ t. length (cond t (d ∷ bs) (behind 10 (d ∷ bs))) < length (b ∷ d ∷ bs)) [ true ↦ omega arith | false ↦ omega (arith, behind_shorter d bs) ]
 
 -- a line taken off: its lines, its length, and where the next one begins
 pub record Taken (rest line after : List ℕ) : Type 0 where
   pub first : lines rest ≡ line ∷ lines after
-  pub shorter : length after < length rest
   pub place : (after ≡ []) ⊎ (length rest ≡ length line + 1 + length after)
 
 pub taken : (rest line after : List ℕ) → Some (line, after) ≡ first_line rest → Taken rest line after
-taken [] line after e = let z : ◌≡◌ {A = ℕ} 0 1 = cc in absurd (omega arith)
+taken [] line after e = absurd (none-some (line, after) (sym e))
 taken (b ∷ bs) line after e =
-    let p : (line, after) ≡ (up_to 10 (b ∷ bs), behind 10 (b ∷ bs)) = cc in
-    let l : line ≡ up_to 10 (b ∷ bs) = ap (λ (q : List ℕ × List ℕ). q.0) p in
-    let a : after ≡ behind 10 (b ∷ bs) = ap (λ (q : List ℕ × List ℕ). q.1) p in
-    rw (l, a) (record { first = lines_step b bs; shorter = behind_shorter b bs; place = parts_length 10 (b ∷ bs) })
+    let p = some_pair_parts line (up_to 10 (b ∷ bs)) after (behind 10 (b ∷ bs)) e in
+    rw (p.0, p.1) (record { first = lines_step b bs; place = parts_length 10 (b ∷ bs) })
 
 -- what only looks at a place where a line begins there
 moved : {Y : Type 0} (F : ℕ → List (List ℕ) → Y) → ((p q : ℕ) → F p [] ≡ F q []) → (size : ℕ) (rest line after : List ℕ) → length rest ≤ size → Taken rest line after → F (size - length rest + length line + 1) (lines after) ≡ F (size - length after) (lines after)
@@ -64,8 +64,8 @@ shows codes size n d rest line after o h t is ends =
 pub stops : (codes size n : ℕ) (d : Drawn) (rest line after : List ℕ) (o : Order) (f : ScriptFault) → Taken rest line after → Ok o ≡ line_order line → false ≡ ending o → stepped codes o d ≡ Err f → left codes size n d rest ≡ refused (record { line = n; fault = f })
 stops codes size n d rest line after o f t is goes step = rw (t.first, ← is, ← goes, step)
 
-pub refuses : (codes size n p : ℕ) (d : Drawn) (rest line after : List ℕ) → Taken rest line after → Err p ≡ line_order line → left codes size n d rest ≡ refused (line_refusal n (size - length rest + p))
-refuses codes size n p d rest line after t is = rw (t.first, ← is)
+pub refuses : (codes size n : ℕ) (e : Misread) (d : Drawn) (rest line after : List ℕ) → Taken rest line after → Err e ≡ line_order line → left codes size n d rest ≡ refused (line_refusal n (size - length rest + e.at))
+refuses codes size n e d rest line after t is = rw (t.first, ← is)
 
 pub kinds : (script line after : List ℕ) (k : Kind) → Taken script line after → Some k ≡ kind_of line → started script ≡ left (kind_codes k) (length script) 2 blank after
 kinds script line after k t is =
@@ -75,11 +75,3 @@ kinds script line after k t is =
 
 pub unkind : (script line after : List ℕ) → Taken script line after → None ≡ kind_of line → started script ≡ refused (line_refusal 1 0)
 unkind script line after t is = rw (t.first, ← is)
-
--- a line is no longer than what it begins
-pub line_within : (rest line after : List ℕ) → Some (line, after) ≡ first_line rest → length line ≤ length rest
-line_within [] line after e = let z : ◌≡◌ {A = ℕ} 0 1 = cc in absurd (omega arith)
-line_within (b ∷ bs) line after e =
-    let p : (line, after) ≡ (up_to 10 (b ∷ bs), behind 10 (b ∷ bs)) = cc in
-    let l : line ≡ up_to 10 (b ∷ bs) = ap (λ (q : List ℕ × List ℕ). q.0) p in
-    rw l (up_to_length 10 (b ∷ bs))

@@ -1,5 +1,5 @@
 -- The kinds of trees, and the lines that name them.
-use Rattle.std.specs.Prelude.{ℕ, cond, List, Some, None, codes, Option}
+use Rattle.std.specs.Prelude.{if◌then◌else◌, ℕ, List, Some, None, codes, Option}
 use Rattle.std.specs.Str.{bytes_eq}
 use Rattle.scripts.specs.declared.kinds.Kind.{Kind}
 use Rattle.scripts.specs.declared.kinds.Kind.TheVariants.{Plant, Grammar}
@@ -10,8 +10,9 @@ kind_name Grammar = codes "grammar"
 
 abbrev pub kind_of : List ℕ → Option Kind
 kind_of line =
-    cond (bytes_eq line (kind_name Plant)) (Some Plant)
-    (cond (bytes_eq line (kind_name Grammar)) (Some Grammar) None)
+    if bytes_eq line (kind_name Plant) then Some Plant
+    else if bytes_eq line (kind_name Grammar) then Some Grammar
+    else None
 
 -- how many codes the kind's rules have
 abbrev pub kind_codes : Kind → ℕ

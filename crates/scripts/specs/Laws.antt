@@ -1,6 +1,6 @@
 -- What holds of every script beside what it means.
-use Rattle.std.specs.Prelude.{◌≡◌, ℕ, ◌+◌, ◌≤◌, false, cond, List, [], ◌∷◌, ◌++◌, length, None, codes, Result, ◌==◌}
-use Rattle.std.specs.List.{flat_map, AllByRecursion}
+use Rattle.std.specs.Prelude.{◌≡◌, ℕ, ◌+◌, ◌≤◌, false, if◌then◌else◌, List, [], ◌∷◌, ◌++◌, length, None, codes, Result, ◌==◌}
+use Rattle.std.specs.List.{flat_map, All}
 use Rattle.builders.specs.declared.builds.BuildFault.{BuildFault}
 use Rattle.scripts.specs.Kinds.{kind_name}
 use Rattle.scripts.specs.Lines.{lines}
@@ -12,7 +12,7 @@ use Rattle.scripts.specs.declared.kinds.Kind.{Kind}
 
 -- no LF
 abbrev pub Unbroken : List ℕ → Type 0
-Unbroken l = AllByRecursion (λ b. (b == 10) ≡ false) l
+Unbroken l = All (λ b. (b == 10) ≡ false) l
 
 abbrev pub with_lf : List ℕ → List ℕ
 with_lf l = l ++ 10 ∷ []
@@ -20,7 +20,7 @@ with_lf l = l ++ 10 ∷ []
 -- the script with the LF that its last line may lack
 abbrev pub completed : List ℕ → List ℕ
 completed [] = []
-completed (b ∷ []) = b ∷ cond (b == 10) [] (10 ∷ [])
+completed (b ∷ []) = b ∷ (if b == 10 then [] else 10 ∷ [])
 completed (b ∷ d ∷ bs) = b ∷ completed (d ∷ bs)
 
 -- what the lines between the first and `show` say
@@ -48,7 +48,7 @@ pub record ScriptLaws (script : List ℕ) : Type 0 where
   -- no other answer would do
   pub one_meaning : (a b : Result (List ℕ) ScriptRefusal) → Means script a → Means script b → a ≡ b
   -- the lines have no LF, and with one each they are the script again
-  pub unbroken : AllByRecursion Unbroken (lines script)
+  pub unbroken : All Unbroken (lines script)
   pub rejoined : flat_map with_lf (lines script) ≡ completed script
   -- a script that is written out of lines shows its pieces' bytes with no pairs, as the build at its last line finds them
-  pub round_trip : (k : Kind) (ps : List Piece) → script ≡ written k ps → AllByRecursion (λ p. Unbroken (piece_line p)) ps → length script ≤ script_limit → (built : Result ℕ BuildFault) → Built (text_of ps) built → Means script (judged (text_of ps) (length ps + 2) None built)
+  pub round_trip : (k : Kind) (ps : List Piece) → script ≡ written k ps → All (λ p. Unbroken (piece_line p)) ps → length script ≤ script_limit → (built : Result ℕ BuildFault) → Built (text_of ps) built → Means script (judged (text_of ps) (length ps + 2) None built)

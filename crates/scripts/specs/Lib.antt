@@ -8,5 +8,6 @@ pub mod Kinds
 pub mod Steps
 pub mod Records
 pub mod Outcomes
+pub mod Cursors
 pub mod Reading
 pub mod Laws

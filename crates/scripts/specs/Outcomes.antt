@@ -1,5 +1,7 @@
 -- What a script comes to, line by line, before it is built.
-use Rattle.std.specs.Prelude.{ℕ, ◌+◌, ◌-◌, cond, List, [], ◌∷◌, length, take, Some, None, Ok, Err, count_by, Option, Result, nat_eq, nat_lt}
+use Rattle.std.specs.Prelude.{ℕ, ◌+◌, ◌-◌, if◌then◌else◌, List, [], ◌∷◌, length, take, Some, None, Ok, Err, count_by, Option, Result, nat_lt}
+use Rattle.std.specs.Option.{option_map_or}
+use Rattle.lines.specs.Starts.{line_feed}
 use Rattle.scripts.specs.Commands.{Order, ending, line_order}
 use Rattle.scripts.specs.Kinds.{kind_codes, kind_of}
 use Rattle.scripts.specs.Lines.{lines}
@@ -7,7 +9,7 @@ use Rattle.scripts.specs.Steps.{Drawn, drawn, stepped}
 use Rattle.scripts.specs.declared.faults.ScriptFault.{ScriptFault}
 use Rattle.scripts.specs.declared.faults.ScriptFault.TheVariants.{Other}
 use Rattle.scripts.specs.declared.faults.ScriptRefusal.{ScriptRefusal}
-use Rattle.scripts.specs.declared.kinds.Kind.{Kind}
+use Rattle.scripts.specs.declared.numbers.Misread.{Misread}
 
 -- a script has at most this many bytes
 abbrev pub script_limit : ℕ
@@ -28,8 +30,8 @@ after_show line place [] = None
 after_show line place (l ∷ ls) = Some (line_refusal line place)
 
 -- what is wrong with a line, or its order
-abbrev pub ordered : Result Order ℕ → (ℕ → Outcome) → (Order → Outcome) → Outcome
-ordered (Err place) other goes = other place
+abbrev pub ordered : Result Order Misread → (ℕ → Outcome) → (Order → Outcome) → Outcome
+ordered (Err e) other goes = other e.at
 ordered (Ok order) other goes = goes order
 
 -- a step that is refused, or what it makes
@@ -44,13 +46,9 @@ body codes size place line d [] = refused (line_refusal line size)
 body codes size place line d (l ∷ ls) =
     ordered (line_order l)
     (λ at. refused (line_refusal line (place + at)))
-    (λ order. cond (ending order)
-    (shown d line (after_show (line + 1) (place + length l + 1) ls))
-    (made (stepped codes order d) line (λ more. body codes size (place + length l + 1) (line + 1) more ls)))
-
-abbrev pub named : Option Kind → Outcome → (Kind → Outcome) → Outcome
-named None other goes = other
-named (Some kind) other goes = goes kind
+    (λ order. if ending order
+    then shown d line (after_show (line + 1) (place + length l + 1) ls)
+    else made (stepped codes order d) line (λ more. body codes size (place + length l + 1) (line + 1) more ls))
 
 -- nothing is made yet
 abbrev pub blank : Drawn
@@ -59,7 +57,8 @@ blank = drawn [] [] [] 0 None
 -- the first line names the kind
 abbrev pub headed : ℕ → List (List ℕ) → Outcome
 headed size [] = refused (line_refusal 1 size)
-headed size (l ∷ ls) = named (kind_of l) (refused (line_refusal 1 0)) (λ kind. body (kind_codes kind) size (length l + 1) 2 blank ls)
+headed size (l ∷ ls) =
+    option_map_or (λ kind. body (kind_codes kind) size (length l + 1) 2 blank ls) (kind_of l) (refused (line_refusal 1 0))
 
 -- the same of a script, and of what is left of one of this size
 abbrev pub started : List ℕ → Outcome
@@ -73,14 +72,14 @@ shown_before size line d after = shown d line (after_show (line + 1) (size - len
 
 -- the number of the line in which the byte after these stands
 abbrev pub line_after : List ℕ → ℕ
-line_after bytes = count_by (λ b. nat_eq b 10) bytes + 1
+line_after bytes = count_by line_feed bytes + 1
 
 -- a script over the limit is refused at the first byte over it
 abbrev pub sized : List ℕ → Result (Unit {0}) ScriptRefusal
 sized script =
-    cond (nat_lt script_limit (length script))
-    (Err (line_refusal (line_after (take script_limit script)) script_limit))
-    (Ok tt)
+    if nat_lt script_limit (length script)
+    then Err (line_refusal (line_after (take script_limit script)) script_limit)
+    else Ok tt
 
 abbrev pub unless : Result (Unit {0}) ScriptRefusal → Outcome → Outcome
 unless (Ok _) o = o

@@ -1,12 +1,11 @@
 -- What a script means: its outcome, built and printed at `show`.
-use Rattle.std.specs.Prelude.{◌≡◌, ℕ, List, Some, None, Ok, Err, Option, Result}
+use Rattle.std.specs.Prelude.{◌≡◌, ℕ, List, Ok, Err, Option, Result}
+use Rattle.text.specs.Refusing.{unless}
 use Rattle.builders.specs.Builds.{Judged}
 use Rattle.builders.specs.declared.builds.BuildFault.{BuildFault}
-use Rattle.queues.specs.declared.records.Node.{Node}
 use Rattle.scripts.specs.Outcomes.{Outcome, refused, shown, outcome}
 use Rattle.scripts.specs.Records.{record_of}
 use Rattle.scripts.specs.Steps.{Drawn, drawn}
-use Rattle.scripts.specs.declared.faults.ScriptFault.{ScriptFault}
 use Rattle.scripts.specs.declared.faults.ScriptFault.TheVariants.{Build}
 use Rattle.scripts.specs.declared.faults.ScriptRefusal.{ScriptRefusal}
 use Rattle.scripts.specs.declared.faults.ScriptError.{ScriptError}
@@ -20,21 +19,17 @@ token_limit = 1024
 abbrev pub Built : Drawn → Result ℕ BuildFault → Type 0
 Built (drawn text labels nodes depth to) answer = Judged depth nodes text labels token_limit answer
 
--- the same with the fault as the script's
-abbrev pub Builds : (depth : ℕ) → List (Node ℕ) → (text labels : List ℕ) → Result ℕ ScriptFault → Type 0
-Builds depth nodes text labels (Ok n) = Judged depth nodes text labels token_limit (Ok n)
-Builds depth nodes text labels (Err f) = (fault : BuildFault) × (Judged depth nodes text labels token_limit (Err fault) × (f ≡ Build fault))
+-- the same with the fault as the script's, at a line
+abbrev pub BuiltAt : ℕ → Drawn → Result ℕ ScriptRefusal → Type 0
+BuiltAt line d (Ok n) = Built d (Ok n)
+BuiltAt line d (Err f) = (fault : BuildFault) × (Built d (Err fault) × (f ≡ record { line = line; fault = Build fault }))
 
 abbrev pub printed : Drawn → ℕ → List ℕ
 printed (drawn text labels nodes depth to) tokens = record_of text labels nodes tokens
 
 -- at `show` the build's answer comes first, and then a line that follows
-abbrev pub followed : List ℕ → Option ScriptRefusal → Result (List ℕ) ScriptRefusal
-followed bytes None = Ok bytes
-followed bytes (Some f) = Err f
-
 abbrev pub judged : Drawn → ℕ → Option ScriptRefusal → Result ℕ BuildFault → Result (List ℕ) ScriptRefusal
-judged d line next (Ok tokens) = followed (printed d tokens) next
+judged d line next (Ok tokens) = unless next (printed d tokens)
 judged d line next (Err fault) = Err (record { line = line; fault = Build fault })
 
 abbrev pub Settles : Outcome → Result (List ℕ) ScriptRefusal → Type 0

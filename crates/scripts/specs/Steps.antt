@@ -1,14 +1,13 @@
 -- What each order does to what the lines before it have made.
-use Rattle.std.specs.Prelude.{◌≡◌, ℕ, ◌+◌, ◌-◌, ◌<◌, ◌≤◌, Bool, false, cond, List, [], ◌∷◌, ◌++◌, length, Some, None, Ok, Err, vec_items, Option, Result, nat_le}
+use Rattle.std.specs.Prelude.{◌≡◌, ℕ, ◌+◌, ◌-◌, ◌<◌, ◌≤◌, Bool, false, if◌then◌else◌, List, [], ◌∷◌, ◌++◌, length, map, Some, None, Ok, Err, Option, Result, nat_le}
+use Rattle.std.specs.Option.{option_map_or}
 use Rattle.queues.specs.declared.records.Node.{Node}
-use Rattle.queues.specs.declared.tokens.Tag.{Tag}
-use Rattle.queues.specs.Lists.{retagged}
+use Rattle.queues.specs.Lists.{tagged_at}
 use Rattle.queues.specs.Records.{depths}
 use Rattle.builders.specs.Calls.{append_fault, close_fault, grown, last_at, open_fault, tag_fault}
 use Rattle.builders.specs.declared.faults.BuilderFault.{BuilderFault}
 use Rattle.builders.specs.declared.faults.BuilderFault.TheVariants.{Full}
 use Rattle.scripts.specs.Commands.{Order, says, breaks, adds, opens, closes, tags, shows}
-use Rattle.scripts.specs.declared.drafts.Draft.{Draft}
 use Rattle.scripts.specs.declared.faults.ScriptError.{ScriptError}
 use Rattle.scripts.specs.declared.faults.ScriptError.TheVariants.{Refused, NoMemory}
 use Rattle.scripts.specs.declared.faults.ScriptFault.{ScriptFault}
@@ -29,24 +28,15 @@ abbrev pub coded_node : {R : Type 0} → (R → ℕ) → Node R → Node ℕ
 coded_node coded n = record { rule = coded n.rule; start = n.start; end = n.end; depth = n.depth; tag = n.tag }
 
 abbrev pub coding : {R : Type 0} → (R → ℕ) → List (Node R) → List (Node ℕ)
-coding coded [] = []
-coding coded (n ∷ ns) = coded_node coded n ∷ coding coded ns
-
-abbrev pub drawn_of : Draft → List (Node ℕ) → Drawn
-drawn_of d nodes = drawn (vec_items d.text) (vec_items d.labels) nodes d.builder.depth d.builder.to_tag
+coding coded nodes = map (coded_node coded) nodes
 
 -- the builder's fault, if any, comes first
 abbrev pub refusing : Option BuilderFault → Result Drawn ScriptFault → Result Drawn ScriptFault
-refusing (Some f) d = Err (Builder f)
-refusing None d = d
+refusing fault d = option_map_or (λ f. Err (Builder f)) fault d
 
 -- then a code without a rule
 abbrev pub ruled : (codes code : ℕ) → Drawn → Result Drawn ScriptFault
-ruled codes code d = cond (nat_le codes code) (Err (NoRule code)) (Ok d)
-
-abbrev pub labelled : Option ℕ → Tag → List (Node ℕ) → List (Node ℕ)
-labelled None t nodes = nodes
-labelled (Some node) t nodes = retagged nodes node t
+ruled codes code d = if nat_le codes code then Err (NoRule code) else Ok d
 
 -- a tag's bytes go behind the labels before it; there are this many codes
 abbrev pub stepped : (codes : ℕ) → Order → Drawn → Result Drawn ScriptFault
@@ -62,7 +52,7 @@ stepped codes closes (drawn text labels nodes depth to) =
     refusing (close_fault depth nodes) (Ok (drawn text labels nodes (depth - 1) (last_at (depth - 1) (depths nodes))))
 stepped codes (tags bytes) (drawn text labels nodes depth to) =
     refusing (tag_fault to (record { place = length labels; length = length bytes }) nodes)
-    (Ok (drawn text (labels ++ bytes) (labelled to (record { place = length labels; length = length bytes }) nodes) depth to))
+    (Ok (drawn text (labels ++ bytes) (tagged_at to (record { place = length labels; length = length bytes }) nodes) depth to))
 stepped codes shows d = Ok d
 
 -- a fault is what is meant, and want of memory says nothing of it
@@ -84,3 +74,12 @@ Roomy full nodes (Err NoRoom) = Unit {0}
 abbrev pub error_at : ℕ → Problem → ScriptError
 error_at line (Fault f) = Refused (record { line = line; fault = f })
 error_at line NoRoom = NoMemory
+
+-- the same of a line's step, with the refusal at the line
+abbrev pub StopsAt : ℕ → Result Drawn ScriptFault → ScriptError → Type 0
+StopsAt line meant (Refused f) = (f.line ≡ line) × (meant ≡ Err f.fault)
+StopsAt line meant NoMemory = Unit {0}
+
+abbrev pub StepsAt : ℕ → Result Drawn ScriptFault → Drawn → Result (Unit {0}) ScriptError → Type 0
+StepsAt line meant d (Ok _) = meant ≡ Ok d
+StepsAt line meant d (Err e) = StopsAt line meant e

@@ -1,13 +1,13 @@
 //! The commands that the lines after a script's first one give.
 ghost use Rattle.std.specs.Prelude.{◌≡◌, ◌≤◌, length, IfErr};
-ghost use Rattle.scripts.specs.Commands.{ending, line_order, order_of, orderly, word_order};
+ghost use Rattle.std.specs.Option.{option_map};
+ghost use Rattle.scripts.specs.Commands.{bare_order, ending, line_order, order_of, orderly, verb_of};
 
-use crate::numbers::{Pair, read_pair};
-use crate::parts::spells;
+use crate::numbers::{Misread, Pair, read_pair};
 use crate::words::{keyword, rest};
 
 /// What one line tells the reader of a script to do.
-#[derive(Clone, Copy)]
+#[derive(Clone, Copy, Debug, PartialEq, Eq, Hash)]
 pub enum Command<'l> {
     /// Append these bytes to the text.
     Text(&'l [u8]),
@@ -30,48 +30,57 @@ impl<'l> Command<'l> {
     pub fn ends(&self) -> bool
         ensures { result ≡ ending (order_of self.now) }
     {
-        match self {
-            Command::Show => true,
-            _ => false,
-        }
+        matches!(self, Command::Show)
     }
 }
 
-// The command of a line by its keyword.
-fn read_words(line: &[u8]) -> Result<Command<'_>, usize>
-    ensures value { orderly result ≡ word_order line.now }
-    ensures within { IfErr result (λ p. p ≤ length line.now) }
+// A word that bytes or numbers follow. By name first: a `match` on bytes whose last arm is an error gets no proof.
+#[derive(Clone, Copy)]
+enum Verb {
+    Text,
+    Tag,
+    Rule,
+    Open,
+}
+
+fn read_verb(word: &[u8]) -> Option<Verb>
+    ensures { result ≡ verb_of word.now }
 {
-    let word = keyword(line).bytes();
-    if spells(word, b"text") {
-        return Ok(Command::Text(rest(line, 5).bytes()));
+    match word {
+        b"text" => Some(Verb::Text),
+        b"tag" => Some(Verb::Tag),
+        b"rule" => Some(Verb::Rule),
+        b"open" => Some(Verb::Open),
+        _ => None,
     }
-    if spells(word, b"tag") {
-        return Ok(Command::Tag(rest(line, 4).bytes()));
+}
+
+// The command of a line that is one word.
+fn read_bare(line: &[u8]) -> Option<Command<'_>>
+    ensures { option_map order_of result ≡ bare_order line.now }
+{
+    match line {
+        b"next" => Some(Command::Next),
+        b"show" => Some(Command::Show),
+        b"close" => Some(Command::Close),
+        _ => None,
     }
-    if spells(word, b"rule") {
-        return Ok(Command::Rule(read_pair(line)?));
-    }
-    if spells(word, b"open") {
-        return Ok(Command::Open(read_pair(line)?));
-    }
-    Err(0)
 }
 
 /// The command of a line, or the offset in the line of what is wrong with it: 0 where it is another line.
 /// `text` and `tag` take what stands after one space, `rule` and `open` three numbers; nothing may follow the others.
-pub fn read_command(line: &[u8]) -> Result<Command<'_>, usize>
+pub fn read_command(line: &[u8]) -> Result<Command<'_>, Misread>
     ensures value { orderly result ≡ line_order line.now }
-    ensures within { IfErr result (λ p. p ≤ length line.now) }
+    ensures within { IfErr result (λ e. e.at ≤ length line.now) }
 {
-    if spells(line, b"next") {
-        return Ok(Command::Next);
+    if let Some(command) = read_bare(line) {
+        return Ok(command);
     }
-    if spells(line, b"show") {
-        return Ok(Command::Show);
+    let verb = read_verb(keyword(line).bytes()).ok_or(Misread { at: 0 })?;
+    match verb {
+        Verb::Text => Ok(Command::Text(rest(line, 5).bytes())),
+        Verb::Tag => Ok(Command::Tag(rest(line, 4).bytes())),
+        Verb::Rule => Ok(Command::Rule(read_pair(line)?)),
+        Verb::Open => Ok(Command::Open(read_pair(line)?)),
     }
-    if spells(line, b"close") {
-        return Ok(Command::Close);
-    }
-    read_words(line)
 }

@@ -1,41 +1,60 @@
 //! What a script's lines make, one after the other.
-ghost use Rattle.std.specs.Prelude.{◌≡◌, [], None, MatchResult};
-ghost use Rattle.scripts.specs.Commands.{adds, closes, opens, order_of, says, tags};
+ghost use Rattle.std.specs.Prelude.{◌≡◌, ◌≤◌, MatchResult};
+ghost use Rattle.scripts.specs.Commands.{adds, closes, opens, order_of, tags};
+ghost use Rattle.scripts.specs.declared.faults.ScriptFault.TheVariants.{NoRule};
 ghost use Rattle.scripts.specs.declared.problems.Problem.TheVariants.{NoRoom};
-ghost use Rattle.scripts.specs.Steps.{Roomy, Steps, coding, drawn_of, stepped};
+ghost use Rattle.scripts.specs.Outcomes.{blank};
+ghost use Rattle.scripts.specs.Steps.{Roomy, Steps, StepsAt, stepped};
 
 use crate::commands::Command;
-use crate::faults::ScriptFault;
+use crate::faults::{ScriptError, ScriptFault};
 use crate::numbers::Pair;
 use crate::problems::Problem;
 use builders::PairsBuilder;
 use builders::faults::BuilderFault;
 use queues::nodes::Nodes;
+use queues::records::Node;
+use queues::slices::SliceNodes;
 use queues::tokens::Tag;
 use rules::RuleType;
 use std::alloc::Global;
+use std::marker::Model;
 
 /// The most nodes that a script may have.
 pub const NODES: usize = 512;
 
-/// What the lines so far have made beside the nodes: the text, the label bytes of the tags, and the builder.
+/// What the lines so far have made: the text, the label bytes of the tags, the nodes, and the builder.
+// No derived equality: the nodes have none.
 #[derive(Drop)]
-pub struct Draft {
+pub struct Draft<'n, R: RuleType> {
     pub(crate) text: Vec<u8>,
     pub(crate) labels: Vec<u8>,
+    pub(crate) nodes: SliceNodes<'n, R>,
     pub(crate) builder: PairsBuilder,
+}
+
+impl<'n, R: RuleType> Model for Draft<'n, R> {
+    ghost use Rattle.std.specs.Prelude.{vec_items};
+    ghost use Rattle.queues.specs.Slices.{nodes_of};
+    ghost use Rattle.scripts.specs.Steps.{Drawn, drawn, coding};
+
+    ghost Value = { Drawn };
+
+    ghost view = { λ d.
+        drawn (vec_items d.text) (vec_items d.labels)
+        (coding R.coded (nodes_of d.nodes)) d.builder.depth d.builder.to_tag };
 }
 
 // Refuses a list of 512 nodes; a list that takes no node before that has too little room.
 fn check_count<R: RuleType, N: Nodes<R>>(nodes: &N) -> Result<(), Problem>
-    ensures { Roomy (N.Nodes.full nodes.now) (N.Nodes.list nodes.now) result }
+    ensures { Roomy (N.full nodes.now) (N.list nodes.now) result }
 {
     let count = nodes.len();
     if count >= NODES {
         let fault = BuilderFault::Full {
             count: count as u64,
         };
-        return Err(Problem::Fault(ScriptFault::Builder(fault)));
+        return Err(fault.into());
     }
     if nodes.is_full() {
         return Err(Problem::NoRoom);
@@ -43,91 +62,97 @@ fn check_count<R: RuleType, N: Nodes<R>>(nodes: &N) -> Result<(), Problem>
     Ok(())
 }
 
+// The rule that has a code.
+fn rule_of<R: RuleType>(code: u32) -> Result<R, ScriptFault>
+    ensures { MatchResult result
+        (λ rule. R.coded rule ≡ code)
+        (λ fault. (R.CODES ≤ code) × (fault ≡ NoRule code)) }
+{
+    R::from_code(code).ok_or(ScriptFault::NoRule { code })
+}
+
 // A place or a length in the labels.
 fn small(n: usize) -> Result<u32, Problem>
     ensures { MatchResult result (λ x. x ≡ n) (λ p. p ≡ NoRoom) }
 {
-    if n > 4_294_967_295 {
-        return Err(Problem::NoRoom);
-    }
-    Ok(n as u32)
+    u32::try_from(n).map_err(|_| Problem::NoRoom)
 }
 
-impl Draft {
-    /// No text, no labels, and a builder at depth 0.
-    pub fn new(heap: Global) -> Draft
-        ensures text { result.text.items ≡ [] }
-        ensures labels { result.labels.items ≡ [] }
-        ensures depth { result.builder.depth ≡ 0 }
-        ensures tags { result.builder.to_tag ≡ None }
+impl<'n, R: RuleType> Draft<'n, R> {
+    /// No text, no labels, no nodes in the slots, and a builder at depth 0.
+    pub fn new(heap: Global, slots: &'n mut [Node<R>]) -> Draft<'n, R>
+        ensures { result ≡ blank }
     {
         Draft {
             text: Vec::new(heap),
             labels: Vec::new(heap),
+            nodes: SliceNodes::over(slots, 0),
             builder: PairsBuilder::new(),
         }
     }
 
-    fn rule<R: RuleType, N: Nodes<R>>(&mut self, nodes: &mut N, pair: Pair) -> Result<(), Problem>
-        ensures { Steps (stepped R.RuleType.codes (adds pair) (drawn_of self.old (coding R.RuleType.coded (N.Nodes.list nodes.old)))) (drawn_of self.new (coding R.RuleType.coded (N.Nodes.list nodes.new))) result }
+    // `rule` and `open` differ in both calls of the builder: one function of the two would be handed both, and no plainer.
+    fn rule(&mut self, pair: Pair) -> Result<(), Problem>
+        ensures { Steps (stepped R.CODES (adds pair) self.old) self.new result }
     {
-        check_count(nodes)?;
-        self.builder.check_rule(nodes)?;
-        let Some(rule) = R::from_code(pair.code) else {
-            return Err(Problem::Fault(ScriptFault::NoRule { code: pair.code }));
-        };
-        self.builder.rule(nodes, rule, pair.start, pair.end)?;
+        check_count(&self.nodes)?;
+        self.builder.check_rule(&self.nodes)?;
+        let rule = rule_of(pair.code)?;
+        self.builder
+            .rule(&mut self.nodes, rule, pair.start, pair.end)?;
         Ok(())
     }
 
-    fn open<R: RuleType, N: Nodes<R>>(&mut self, nodes: &mut N, pair: Pair) -> Result<(), Problem>
-        ensures { Steps (stepped R.RuleType.codes (opens pair) (drawn_of self.old (coding R.RuleType.coded (N.Nodes.list nodes.old)))) (drawn_of self.new (coding R.RuleType.coded (N.Nodes.list nodes.new))) result }
+    fn open(&mut self, pair: Pair) -> Result<(), Problem>
+        ensures { Steps (stepped R.CODES (opens pair) self.old) self.new result }
     {
-        check_count(nodes)?;
-        self.builder.check_open(nodes)?;
-        let Some(rule) = R::from_code(pair.code) else {
-            return Err(Problem::Fault(ScriptFault::NoRule { code: pair.code }));
-        };
-        self.builder.open(nodes, rule, pair.start, pair.end)?;
+        check_count(&self.nodes)?;
+        self.builder.check_open(&self.nodes)?;
+        let rule = rule_of(pair.code)?;
+        self.builder
+            .open(&mut self.nodes, rule, pair.start, pair.end)?;
         Ok(())
     }
 
-    fn close<R: RuleType, N: Nodes<R>>(&mut self, nodes: &N) -> Result<(), Problem>
-        ensures { Steps (stepped R.RuleType.codes closes (drawn_of self.old (coding R.RuleType.coded (N.Nodes.list nodes.now)))) (drawn_of self.new (coding R.RuleType.coded (N.Nodes.list nodes.now))) result }
+    fn close(&mut self) -> Result<(), Problem>
+        ensures { Steps (stepped R.CODES closes self.old) self.new result }
     {
-        self.builder.close(nodes)?;
+        self.builder.close(&self.nodes)?;
         Ok(())
     }
 
-    fn tag<R: RuleType, N: Nodes<R>>(&mut self, nodes: &mut N, bytes: &[u8]) -> Result<(), Problem>
-        ensures { Steps (stepped R.RuleType.codes (tags bytes.now) (drawn_of self.old (coding R.RuleType.coded (N.Nodes.list nodes.old)))) (drawn_of self.new (coding R.RuleType.coded (N.Nodes.list nodes.new))) result }
+    fn tag(&mut self, bytes: &[u8]) -> Result<(), Problem>
+        ensures { Steps (stepped R.CODES (tags bytes.now) self.old) self.new result }
     {
         let tag = Tag {
             place: small(self.labels.len())?,
             length: small(bytes.len())?,
         };
         self.labels.extend_from_slice(bytes)?;
-        self.builder.tag(nodes, tag)?;
+        self.builder.tag(&mut self.nodes, tag)?;
         Ok(())
     }
 
-    /// Does what a command says; nothing where it ends the script.
-    pub(crate) fn step<R: RuleType, N: Nodes<R>>(
-        &mut self,
-        nodes: &mut N,
-        command: Command<'_>,
-    ) -> Result<(), Problem>
-        ensures { Steps (stepped R.RuleType.codes (order_of command.entry) (drawn_of self.old (coding R.RuleType.coded (N.Nodes.list nodes.old)))) (drawn_of self.new (coding R.RuleType.coded (N.Nodes.list nodes.new))) result }
+    // Does what a command says; nothing where it ends the script.
+    fn perform(&mut self, command: Command<'_>) -> Result<(), Problem>
+        ensures { Steps (stepped R.CODES (order_of command.entry) self.old) self.new result }
     {
         match command {
             Command::Text(bytes) => self.text.extend_from_slice(bytes)?,
             Command::Next => self.text.extend_from_slice(b"\n")?,
-            Command::Rule(pair) => self.rule(nodes, pair)?,
-            Command::Open(pair) => self.open(nodes, pair)?,
-            Command::Close => self.close(nodes)?,
-            Command::Tag(bytes) => self.tag(nodes, bytes)?,
+            Command::Rule(pair) => self.rule(pair)?,
+            Command::Open(pair) => self.open(pair)?,
+            Command::Close => self.close()?,
+            Command::Tag(bytes) => self.tag(bytes)?,
             Command::Show => (),
         }
         Ok(())
+    }
+
+    /// Does what the command of a line says.
+    pub(crate) fn step(&mut self, command: Command<'_>, line: u32) -> Result<(), ScriptError>
+        ensures { StepsAt line (stepped R.CODES (order_of command.entry) self.old) self.new result }
+    {
+        self.perform(command).map_err(|problem| problem.at(line))
     }
 }

@@ -4,14 +4,14 @@ ghost use Rattle.scripts.specs.Faults.{refusal_of, refusal_line};
 ghost use Rattle.scripts.specs.declared.faults.ScriptFault.TheVariants.{Builder, Build};
 ghost use Rattle.scripts.specs.declared.faults.ScriptError.TheVariants.{Refused, NoMemory};
 
-use builders::builds::BuildFault;
+use builders::builds::{BuildFault, RefusedBuild};
 use builders::faults::BuilderFault;
 use std::alloc::AllocError;
 use std::fmt;
 use text::refusals::Refusal;
 
 /// What is wrong with a script.
-#[derive(Clone, Copy, PartialEq, Eq, Debug)]
+#[derive(Clone, Copy, Debug, PartialEq, Eq)]
 pub enum ScriptFault {
     /// Another line than a script may have there, a missing line, a wrong number, or a byte over the size, at this offset of the script.
     Other { place: u32 },
@@ -39,29 +39,37 @@ impl From<BuildFault> for ScriptFault {
     }
 }
 
+impl From<RefusedBuild> for ScriptFault {
+    ghost from_gives = { λ e r. r ≡ Build e.fault };
+
+    fn from(e: RefusedBuild) -> ScriptFault {
+        ScriptFault::from(e.fault)
+    }
+}
+
 /// A script's fault, with the number from 1 of the line that is refused.
-#[derive(Clone, Copy, PartialEq, Eq, Debug)]
+#[derive(Clone, Copy, Debug, PartialEq, Eq)]
 pub struct ScriptRefusal {
     pub line: u32,
     pub fault: ScriptFault,
 }
 
-impl ScriptRefusal {
+impl From<ScriptFault> for Refusal {
+    ghost from_gives = { λ e r. r ≡ refusal_of e };
+
     /// Number 18 at an offset of the script, 17 at a code, or the builder's own refusal.
-    pub fn refusal(&self) -> Refusal
-        ensures { result ≡ refusal_of self.now.fault }
-    {
-        match self.fault {
+    fn from(fault: ScriptFault) -> Refusal {
+        match fault {
             ScriptFault::Other { place } => Refusal {
                 number: 18,
-                place: place as u64,
+                place: u64::from(place),
             },
             ScriptFault::NoRule { code } => Refusal {
                 number: 17,
-                place: code as u64,
+                place: u64::from(code),
             },
-            ScriptFault::Builder(fault) => fault.refusal(),
-            ScriptFault::Build(fault) => fault.refusal(),
+            ScriptFault::Builder(fault) => fault.into(),
+            ScriptFault::Build(fault) => fault.into(),
         }
     }
 }
@@ -71,16 +79,14 @@ impl fmt::Display for ScriptRefusal {
 
     /// The line that answers a refused script: `refused`, the number, the place, and the script's line.
     fn fmt<W: fmt::Write>(&self, f: &mut fmt::Formatter<W>) -> fmt::Result {
-        let refusal = self.refusal();
-        let number = refusal.number;
-        let place = refusal.place;
+        let Refusal { number, place } = Refusal::from(self.fault);
         let line = self.line;
         write!(f, "refused {number} {place} {line}")
     }
 }
 
 /// Why there is no record of a script.
-#[derive(Clone, Copy, PartialEq, Eq, Debug)]
+#[derive(Clone, Copy, Debug, PartialEq, Eq)]
 pub enum ScriptError {
     /// The script is refused.
     Refused(ScriptRefusal),

@@ -2,10 +2,8 @@
 ghost use Rattle.std.specs.Prelude.{◌≡◌};
 ghost use Rattle.scripts.specs.Kinds.{kind_of};
 
-use crate::parts::spells;
-
 /// What a script builds.
-#[derive(Clone, Copy, PartialEq, Eq, Debug)]
+#[derive(Clone, Copy, Debug, PartialEq, Eq, Hash)]
 pub enum Kind {
     Plant,
     Grammar,
@@ -15,11 +13,9 @@ pub enum Kind {
 pub fn read_kind(line: &[u8]) -> Option<Kind>
     ensures { result ≡ kind_of line.now }
 {
-    if spells(line, b"plant") {
-        return Some(Kind::Plant);
+    match line {
+        b"plant" => Some(Kind::Plant),
+        b"grammar" => Some(Kind::Grammar),
+        _ => None,
     }
-    if spells(line, b"grammar") {
-        return Some(Kind::Grammar);
-    }
-    None
 }

@@ -2,6 +2,7 @@
 #![tactic(auto)]
 
 pub mod commands;
+mod cursor;
 pub mod drafts;
 pub mod faults;
 pub mod kinds;

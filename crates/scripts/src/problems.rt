@@ -27,6 +27,14 @@ impl Problem {
     }
 }
 
+impl From<ScriptFault> for Problem {
+    ghost from_gives = { λ e r. r ≡ Fault e };
+
+    fn from(e: ScriptFault) -> Problem {
+        Problem::Fault(e)
+    }
+}
+
 impl From<BuilderFault> for Problem {
     ghost from_gives = { λ e r. r ≡ Fault (Builder e) };
 

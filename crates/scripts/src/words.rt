@@ -6,7 +6,7 @@ ghost use Rattle.scripts.specs.Words.{word_of, part_bytes, key, numeral, tail};
 use crate::parts::{before, onward};
 
 /// A part of a line, with the offset in the line at which it begins.
-#[derive(Clone, Copy)]
+#[derive(Clone, Copy, Debug, PartialEq, Eq, Hash)]
 pub enum Word<'l> {
     /// What a line begins with: which command it is.
     Keyword { place: usize, bytes: &'l [u8] },
@@ -22,9 +22,9 @@ impl<'l> Word<'l> {
         ensures { result.now ≡ part_bytes (word_of self.entry) }
     {
         match self {
-            Word::Keyword { bytes, .. } => bytes,
-            Word::Number { text, .. } => text,
-            Word::Rest { bytes, .. } => bytes,
+            Word::Keyword { bytes, .. }
+            | Word::Number { text: bytes, .. }
+            | Word::Rest { bytes, .. } => bytes,
         }
     }
 }
@@ -42,7 +42,8 @@ pub fn keyword(line: &[u8]) -> Word<'_>
 /// The text of a number: the bytes from `from` to the next space or the line's end.
 /// Where `from` is past the end it is empty, at the end.
 pub fn number(line: &[u8], from: usize) -> Word<'_>
-    ensures { word_of result ≡ numeral (min from (length line.now)) (up_to 32 (drop from line.now)) }
+    ensures { word_of result
+        ≡ numeral (min from (length line.now)) (up_to 32 (drop from line.now)) }
 {
     Word::Number {
         place: from.min(line.len()),

@@ -1,34 +1,40 @@
-use Rattle.std.proofs.Common.{◌+◌, ◌-◌, length, Ok, Err, vec_items, sym, ap, ◌∙◌}
-use Rattle.std.proofs.lemmas.Bool.{eqb-true}
+use Rattle.std.proofs.Common.{◌≡◌, ◌+◌, ◌-◌, length, Ok, Err, refl, ap, ◌∙◌, subst, arith}
+use Rattle.std.proofs.lemmas.Result.{err_from_is_err_and}
 use Rattle.scripts.specs.Lines.{lines}
-use Rattle.scripts.specs.Outcomes.{after_show}
-use Rattle.scripts.specs.Records.{record_of}
-use Rattle.scripts.specs.Steps.{coding}
-use Rattle.scripts.proofs.Cuts.{filled}
-use Rattle.scripts.proofs.Settled.{builds_as, ends, fails, follows}
+use Rattle.scripts.specs.Outcomes.{after_show, line_refusal}
+use Rattle.scripts.specs.Reading.{BuiltAt, printed}
+use Rattle.scripts.proofs.Settled.{drawn_as, ends, fails, follows}
 use Rattle.scripts.proofs.reading.finish.Goals as goal
 
-pub returns-in-Err : goal.returns-in-Err
-returns-in-Err g c =
-    let nodes = coding g.R.RuleType.coded (g.N.Nodes.list c.args.nodes.now) in
-    let text = vec_items c.args.draft.text in
-    let labels = vec_items c.args.draft.labels in
-    let b = builds_as c.args.draft.builder.depth nodes c.as_slice.result.now text c.as_slice-2.result.now labels (Err c.in-Err.fault) c.as_slice.ensures.value c.as_slice-2.ensures.value c.in-Err.ensures in
-    fails c.args.end.line c.args.draft.builder.depth text labels nodes c.args.draft.builder.to_tag (after_show (c.args.end.line + 1) (c.args.size - length c.args.end.after.now) (lines c.args.end.after.now)) c.in-Err.fault b
+pub returns-in_err-tokens : goal.returns-in_err-tokens
+returns-in_err-tokens g c =
+    let p = err_from_is_err_and c.from_residual-in_err-tokens.result c.from_residual-in_err-tokens.ensures.1 in
+    let b = c.draft.inside.builder in
+    let is = drawn_as b.depth b.to_tag c.deref.ensures.value c.deref-2.ensures.value refl ∙ c.draft.view_is in
+    let l = c.args.lines in
+    rw (p.1, p.2)
+    (fails c.args.number c.args.draft (after_show (c.args.number + 1) (l.size - length l.rest.now) (lines l.rest.now)) c.in_err-tokens.field-0.0
+    (subst (λ d. BuiltAt c.args.number d (Err c.in_err-tokens.field-0.0)) is c.in_err-tokens.ensures))
 
-pub returns-then-not-is_empty : goal.returns-then-not-is_empty
-returns-then-not-is_empty g c =
-    let nodes = coding g.R.RuleType.coded (g.N.Nodes.list c.args.nodes.now) in
-    let text = vec_items c.args.draft.text in
-    let labels = vec_items c.args.draft.labels in
-    let b = builds_as c.args.draft.builder.depth nodes c.as_slice.result.now text c.as_slice-2.result.now labels (Ok c.in-Ok.count) c.as_slice.ensures.value c.as_slice-2.ensures.value c.in-Ok.ensures in
-    follows c.args.size c.args.end.line c.args.draft.builder.depth c.in-Ok.count text labels c.args.end.after.now nodes c.args.draft.builder.to_tag c.refuse.result b (filled c.args.end.after.now c.if-not-is_empty.ensures) c.refuse.ensures
+pub returns-in-Some : goal.returns-in-Some
+returns-in-Some g c =
+    let b = c.draft.inside.builder in
+    let is = drawn_as b.depth b.to_tag c.deref.ensures.value c.deref-2.ensures.value refl ∙ c.draft.view_is in
+    let l = c.args.lines in
+    let n = c.in-Some.ensures in
+    let number = n.number ∙ c.requires in
+    let place : c.in-Some.line.place + 0 ≡ l.size - length l.rest.now = omega (arith, n.place) in
+    let e = c.refusal.ensures ∙ ap (λ k. line_refusal k (c.in-Some.line.place + 0)) number ∙ ap (line_refusal (c.args.number + 1)) place in
+    rw c.into.ensures
+    (follows l.size c.args.number c.in_ok-tokens.tokens c.args.draft l.rest.now c.in-Some.line.bytes.now c.take_line.new.self.rest.now c.refusal.result
+    (subst (λ d. BuiltAt c.args.number d (Ok c.in_ok-tokens.tokens)) is c.in_ok-tokens.ensures) n.first e)
 
 pub returns : goal.returns
 returns g c =
-    let nodes = coding g.R.RuleType.coded (g.N.Nodes.list c.args.nodes.now) in
-    let text = vec_items c.args.draft.text in
-    let labels = vec_items c.args.draft.labels in
-    let b = builds_as c.args.draft.builder.depth nodes c.as_slice.result.now text c.as_slice-2.result.now labels (Ok c.in-Ok.count) c.as_slice.ensures.value c.as_slice-2.ensures.value c.in-Ok.ensures in
-    let made = c.in_ok-made.ensures ∙ ap (λ t. record_of t c.as_slice-4.result.now nodes c.in-Ok.count) c.as_slice-3.ensures.value ∙ ap (λ l. record_of text l nodes c.in-Ok.count) c.as_slice-4.ensures.value in
-    ends c.args.size c.args.end.line c.args.draft.builder.depth c.in-Ok.count text labels c.args.end.after.now (vec_items c.in_ok-made.made) nodes c.args.draft.builder.to_tag b (eqb-true (length c.args.end.after.now) 0 (sym c.if-not-is_empty.ensures)) made
+    let b = c.draft.inside.builder in
+    let is = drawn_as b.depth b.to_tag c.deref.ensures.value c.deref-2.ensures.value refl ∙ c.draft.view_is in
+    let l = c.args.lines in
+    ends l.size c.args.number c.in_ok-tokens.tokens c.args.draft l.rest.now _
+    (subst (λ d. BuiltAt c.args.number d (Ok c.in_ok-tokens.tokens)) is c.in_ok-tokens.ensures)
+    c.in_default.ensures.0
+    (c.in_ok-record.ensures ∙ ap (λ d. printed d c.in_ok-tokens.tokens) is)

@@ -1,12 +1,20 @@
 use Rattle.std.proofs.Common.{vec_items}
+use Rattle.queues.specs.Slices.{nodes_of}
 use Rattle.std.proofs.lemmas.Result.{err_from_is_err_and}
-use Rattle.scripts.proofs.Stepping.{close_done, close_refused}
+use Rattle.builders.specs.Calls.{close_fault}
+use Rattle.scripts.proofs.Stepping.{call_refused, close_done, close_same}
 use Rattle.scripts.proofs.drafts.Draft.close.Goals as goal
 
 pub returns-in_err-close : goal.returns-in_err-close
 returns-in_err-close g c =
     let p = err_from_is_err_and c.from_residual.result c.from_residual.ensures.1 in
-    rw (p.1, p.2) (close_refused g.R.RuleType.coded (g.N.Nodes.list c.args.nodes.now) c.args.self.now.builder c.close.new.self _ _ _ c.in_err-close.field-0.0 c.in_err-close.ensures)
+    let s = c.self.inside in
+    let ns = nodes_of s.nodes in
+    rw (← c.self.view_is, p.1, p.2)
+    (call_refused (close_fault s.builder.depth ns) _ (close_same g.R.RuleType.coded s.builder.depth ns) c.in_err-close.field-0.0 _ c.in_err-close.ensures.fault)
 
 pub returns : goal.returns
-returns g c = close_done g.R.RuleType.coded (g.N.Nodes.list c.args.nodes.now) g.R.RuleType.codes c.args.self.now.builder c.close.new.self (vec_items c.args.self.now.text) (vec_items c.args.self.now.labels) c.args.self.now.builder.to_tag c.in_ok-close.ensures
+returns g c =
+    let s = c.self.inside in
+    rw (← c.self.view_is)
+    (close_done g.R.RuleType.coded (nodes_of s.nodes) g.R.RuleType.CODES s.builder c.close.new.self (vec_items s.text) (vec_items s.labels) c.in_ok-close.ensures.fault c.in_ok-close.ensures.builder)

@@ -1,21 +1,33 @@
-use Rattle.std.proofs.Common.{vec_items}
+use Rattle.std.proofs.Common.{length, leb, Err, vec_items, sym, ap, ◌∙◌}
+use Rattle.queues.specs.Slices.{nodes_of}
 use Rattle.std.proofs.lemmas.Result.{err_from_is_err_and}
-use Rattle.scripts.proofs.Stepping.{open_count, open_done, open_refused, open_unruled}
+use Rattle.builders.specs.Calls.{open_fault}
+use Rattle.scripts.proofs.Stepping.{open_done, open_same, call_done, call_refused, unruled}
 use Rattle.scripts.proofs.drafts.Draft.open.Goals as goal
-
-pub returns-in_err-check_count : goal.returns-in_err-check_count
-returns-in_err-check_count g c =
-    let p = err_from_is_err_and c.from_residual.result c.from_residual.ensures.1 in
-    rw (p.1, p.2) (open_count g.R.RuleType.coded (g.N.Nodes.full c.args.nodes.now) c.args.self.now.builder.depth (g.N.Nodes.list c.args.nodes.now) _ c.in_err-check_count.field-0.0 c.in_err-check_count.ensures)
 
 pub returns-in_err-check_open : goal.returns-in_err-check_open
 returns-in_err-check_open g c =
     let p = err_from_is_err_and c.from_residual-in_err-check_open.result c.from_residual-in_err-check_open.ensures.1 in
-    rw (p.1, p.2) (open_refused g.R.RuleType.coded (g.N.Nodes.full c.args.nodes.now) c.args.self.now.builder.depth (g.N.Nodes.list c.args.nodes.now) _ c.in_err-check_open.field-0.0 c.in_ok-check_count.ensures c.in_err-check_open.ensures)
+    let f = g.R.RuleType.coded in
+    let s = c.self.inside in
+    let ns = nodes_of s.nodes in
+    let full = leb (length s.nodes.nodes.now) s.nodes.len in
+    rw (← c.self.view_is, p.1, p.2) (call_refused (open_fault full s.builder.depth ns) _ (open_same f full s.builder.depth ns c.in_ok-check_count.ensures) c.in_err-check_open.field-0.0 _ c.in_err-check_open.ensures)
 
-pub returns-in_default : goal.returns-in_default
-returns-in_default g c = open_unruled g.R.RuleType.coded (g.N.Nodes.full c.args.nodes.now) c.args.self.now.builder.depth (g.N.Nodes.list c.args.nodes.now) g.R.RuleType.codes c.args.pair.code _ c.in_ok-check_count.ensures c.in_ok-check_open.ensures c.in_default.ensures
+pub returns-in_err-rule : goal.returns-in_err-rule
+returns-in_err-rule g c =
+    let p = err_from_is_err_and c.from_residual-in_err-rule.result c.from_residual-in_err-rule.ensures.1 in
+    let f = g.R.RuleType.coded in
+    let s = c.self.inside in
+    let ns = nodes_of s.nodes in
+    let full = leb (length s.nodes.nodes.now) s.nodes.len in
+    rw (← c.self.view_is, p.1, p.2)
+    (call_done (open_fault full s.builder.depth ns) _ (open_same f full s.builder.depth ns c.in_ok-check_count.ensures) _ c.in_ok-check_open.ensures
+    ∙ unruled g.R.RuleType.CODES c.args.pair.code _ c.in_err-rule.ensures.0
+    ∙ ap Err (sym c.in_err-rule.ensures.1))
 
 pub returns : goal.returns
 returns g c =
-    open_done g.R.RuleType.coded (g.N.Nodes.full c.args.nodes.now) (g.N.Nodes.list c.args.nodes.now) (g.N.Nodes.list c.open.new.nodes) c.in-Some.rule g.R.RuleType.codes c.args.pair c.args.self.now.builder c.open.new.self _ (vec_items c.args.self.now.text) (vec_items c.args.self.now.labels) c.args.self.now.builder.to_tag c.in_ok-check_count.ensures c.in_ok-check_open.ensures c.in-Some.ensures (g.met.R.RuleType.below c.in-Some.rule) c.open.ensures
+    let s = c.self.inside in
+    rw (← c.self.view_is)
+    (open_done g.R.RuleType.coded (leb (length s.nodes.nodes.now) s.nodes.len) (nodes_of s.nodes) (nodes_of c.open.new.nodes) c.in_ok-rule.rule g.R.RuleType.CODES c.args.pair s.builder c.open.new.self (vec_items s.text) (vec_items s.labels) c.in_ok-check_count.ensures c.in_ok-check_open.ensures c.in_ok-rule.ensures (g.met.R.RuleType.below c.in_ok-rule.rule) c.in_ok-open.ensures.nodes c.in_ok-open.ensures.builder)

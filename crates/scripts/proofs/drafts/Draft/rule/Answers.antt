@@ -1,21 +1,33 @@
-use Rattle.std.proofs.Common.{vec_items}
+use Rattle.std.proofs.Common.{length, leb, Err, vec_items, sym, ap, ◌∙◌}
+use Rattle.queues.specs.Slices.{nodes_of}
 use Rattle.std.proofs.lemmas.Result.{err_from_is_err_and}
-use Rattle.scripts.proofs.Stepping.{append-count, append_done, append_refused, append_unruled}
+use Rattle.builders.specs.Calls.{append_fault}
+use Rattle.scripts.proofs.Stepping.{append_done, append_same, call_done, call_refused, unruled}
 use Rattle.scripts.proofs.drafts.Draft.rule.Goals as goal
-
-pub returns-in_err-check_count : goal.returns-in_err-check_count
-returns-in_err-check_count g c =
-    let p = err_from_is_err_and c.from_residual.result c.from_residual.ensures.1 in
-    rw (p.1, p.2) (append-count g.R.RuleType.coded (g.N.Nodes.full c.args.nodes.now) (g.N.Nodes.list c.args.nodes.now) _ c.in_err-check_count.field-0.0 c.in_err-check_count.ensures)
 
 pub returns-in_err-check_rule : goal.returns-in_err-check_rule
 returns-in_err-check_rule g c =
     let p = err_from_is_err_and c.from_residual-in_err-check_rule.result c.from_residual-in_err-check_rule.ensures.1 in
-    rw (p.1, p.2) (append_refused g.R.RuleType.coded (g.N.Nodes.full c.args.nodes.now) (g.N.Nodes.list c.args.nodes.now) _ c.in_err-check_rule.field-0.0 c.in_ok-check_count.ensures c.in_err-check_rule.ensures)
+    let f = g.R.RuleType.coded in
+    let s = c.self.inside in
+    let ns = nodes_of s.nodes in
+    let full = leb (length s.nodes.nodes.now) s.nodes.len in
+    rw (← c.self.view_is, p.1, p.2) (call_refused (append_fault full ns) _ (append_same f full ns c.in_ok-check_count.ensures) c.in_err-check_rule.field-0.0 _ c.in_err-check_rule.ensures)
 
-pub returns-in_default : goal.returns-in_default
-returns-in_default g c = append_unruled g.R.RuleType.coded (g.N.Nodes.full c.args.nodes.now) (g.N.Nodes.list c.args.nodes.now) g.R.RuleType.codes c.args.pair.code _ c.in_ok-check_count.ensures c.in_ok-check_rule.ensures c.in_default.ensures
+pub returns-in_err-rule : goal.returns-in_err-rule
+returns-in_err-rule g c =
+    let p = err_from_is_err_and c.from_residual-in_err-rule.result c.from_residual-in_err-rule.ensures.1 in
+    let f = g.R.RuleType.coded in
+    let s = c.self.inside in
+    let ns = nodes_of s.nodes in
+    let full = leb (length s.nodes.nodes.now) s.nodes.len in
+    rw (← c.self.view_is, p.1, p.2)
+    (call_done (append_fault full ns) _ (append_same f full ns c.in_ok-check_count.ensures) _ c.in_ok-check_rule.ensures
+    ∙ unruled g.R.RuleType.CODES c.args.pair.code _ c.in_err-rule.ensures.0
+    ∙ ap Err (sym c.in_err-rule.ensures.1))
 
 pub returns : goal.returns
 returns g c =
-    append_done g.R.RuleType.coded (g.N.Nodes.full c.args.nodes.now) (g.N.Nodes.list c.args.nodes.now) (g.N.Nodes.list c.rule.new.nodes) c.in-Some.rule g.R.RuleType.codes c.args.pair c.args.self.now.builder c.rule.new.self _ (vec_items c.args.self.now.text) (vec_items c.args.self.now.labels) c.args.self.now.builder.to_tag c.in_ok-check_count.ensures c.in_ok-check_rule.ensures c.in-Some.ensures (g.met.R.RuleType.below c.in-Some.rule) c.rule.ensures
+    let s = c.self.inside in
+    rw (← c.self.view_is)
+    (append_done g.R.RuleType.coded (leb (length s.nodes.nodes.now) s.nodes.len) (nodes_of s.nodes) (nodes_of c.rule.new.nodes) c.in_ok-rule.rule g.R.RuleType.CODES c.args.pair s.builder c.rule.new.self (vec_items s.text) (vec_items s.labels) c.in_ok-check_count.ensures c.in_ok-check_rule.ensures c.in_ok-rule.ensures (g.met.R.RuleType.below c.in_ok-rule.rule) c.in_ok-rule-2.ensures.nodes c.in_ok-rule-2.ensures.builder)
