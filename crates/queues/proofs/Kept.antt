@@ -53,10 +53,12 @@ retag_past [] (suc len) i t h = refl
 retag_past (x ∷ xs) (suc len) zero t h = absurd (omega arith)
 retag_past (x ∷ xs) (suc len) (suc i) t h = ap (λ ys. x ∷ ys) (retag_past xs len i t (omega arith))
 
-pub retag_depths : {R : Type 0} (ns : List (Node R)) (i : ℕ) (t : Tag) → depths (retagged ns i t) ≡ depths ns
-retag_depths [] i t = refl
-retag_depths (n ∷ ns) zero t = refl
-retag_depths (n ∷ ns) (suc i) t = ap (λ ys. n.depth ∷ ys) (retag_depths ns i t)
+-- another node of the same depth
+pub kept_depths : {R : Type 0} (xs : List (Node R)) (len i : ℕ) (d m : Node R) → i < len → len ≤ length xs → m.depth ≡ (get_or xs i d).depth → depths (take len (set xs i m)) ≡ depths (take len xs)
+kept_depths [] len i d m l h e = absurd (omega arith)
+kept_depths (x ∷ xs) zero i d m l h e = absurd (omega arith)
+kept_depths (x ∷ xs) (suc len) zero d m l h e = ap (λ k. k ∷ depths (take len xs)) e
+kept_depths (x ∷ xs) (suc len) (suc i) d m l h e = ap (λ ks. x.depth ∷ ks) (kept_depths xs len i d m (omega arith) (omega arith) e)
 
 -- the depths from a node on
 pub depths_more : {R : Type 0} (nodes : List (Node R)) (i : ℕ) (n : Node R) → i < length nodes → n ≡ get_or nodes i n → depths (drop i nodes) ≡ n.depth ∷ depths (drop (i + 1) nodes)
