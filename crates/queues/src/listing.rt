@@ -1,5 +1,7 @@
 //! Going over any list of nodes.
-ghost use Rattle.std.specs.Iterator.{YieldsFirst, YieldsLast, item_count};
+ghost use Rattle.std.specs.Prelude.{◌≡◌, IfSome, Some, length};
+ghost use Rattle.std.specs.Iterator.{UpTo, YieldsFirst, YieldsLast, item_count};
+ghost use Rattle.std.specs.Iterator.SizeHint.{IsWithinCount};
 
 use crate::nodes::Nodes;
 use crate::records::Node;
@@ -42,8 +44,14 @@ impl<'n, R: Copy, N: Nodes<R>> Iterator for Listing<'n, R, N> {
         self.nodes.node(i)
     }
 
-    fn size_hint(&self) -> (usize, Option<usize>) {
-        self.left.size_hint()
+    // Exact, which the trait does not ask: its two clauses alone would let `(0, None)` pass.
+    fn size_hint(&self) -> (usize, Option<usize>)
+        ensures lower { IsWithinCount result.0 (item_count (λ rest. rest) self.now) }
+        ensures upper { IfSome result.1 (UpTo (item_count (λ rest. rest) self.now)) }
+        ensures exact { result ≡ (length self.now, Some (length self.now)) }
+    {
+        let len = self.len();
+        (len, Some(len))
     }
 }
 
