@@ -90,12 +90,15 @@ last_cut p (suc k) l h =
     let s = starts q ++ (length q + 1) ∷ [] in
     ap (λ z. get_or z (length z - 1) 0) e ∙ get_or_push (starts q) (length q + 1) 0 (length s - 1) (omega (arith, length_push (starts q) (length q + 1))) ∙ omega arith
 
+-- where no LF follows, no line starts after
+pub starts_front : (p : List ℕ) (n : ℕ) → n ≤ length p → ((k : ℕ) → n ≤ k → k < length p → get_or p k 0 ≡ 10 → ⊥) → starts p ≡ starts (take n p)
+starts_front p n l a =
+    let none : after (0 + length (take n p)) (drop n p) ≡ [] = after_none _ (drop n p) (λ k i e. a (n + k) (omega arith) (omega (arith, length-drop n p)) (sym (get_or-drop n p k 0) ∙ e)) in
+    split_starts p n ∙ ap (λ ys. starts (take n p) ++ ys) none ∙ append-nil (starts (take n p))
+
 -- the last line starts after the last LF, or at 0
 pub last_start_is : (p : List ℕ) (n : ℕ) → n ≤ length p → ((k : ℕ) → n ≡ k + 1 → get_or p k 0 ≡ 10) → ((k : ℕ) → n ≤ k → k < length p → get_or p k 0 ≡ 10 → ⊥) → last_start p ≡ n
-last_start_is p n l h a =
-    let none : after (0 + length (take n p)) (drop n p) ≡ [] = after_none _ (drop n p) (λ k i e. a (n + k) (omega arith) (omega (arith, length-drop n p)) (sym (get_or-drop n p k 0) ∙ e)) in
-    let e : starts p ≡ starts (take n p) = split_starts p n ∙ ap (λ ys. starts (take n p) ++ ys) none ∙ append-nil (starts (take n p)) in
-    ap (λ z. get_or z (length z - 1) 0) e ∙ last_cut p n l h
+last_start_is p n l h a = ap (λ z. get_or z (length z - 1) 0) (starts_front p n l a) ∙ last_cut p n l h
 
 -- reading the bytes before an offset, as far as there are any, gives its line and column
 pub line_col_cut : (text : List ℕ) (at n : ℕ) → n ≡ min (length text) at → line_col (take n text) (length (take n text)) ≡ line_col text at

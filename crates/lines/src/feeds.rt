@@ -2,10 +2,10 @@
 ghost use Rattle.std.specs.Prelude.{◌≡◌, ◌≤◌, length, count_by};
 ghost use Rattle.lines.specs.Starts.{line_feed};
 
-// How many LFs `text` has.
+// How many LFs `text` has. By a sum, as `spans::count_characters`.
 pub(crate) fn count_line_feeds(text: &[u8]) -> usize
     ensures value { result ≡ count_by line_feed text.now }
     ensures bound { result ≤ length text.now }
 {
-    text.iter().filter(|b| **b == b'\n').count()
+    text.iter().map(|b| usize::from(*b == b'\n')).sum()
 }

@@ -9,13 +9,13 @@ use spans::count_characters;
 fn read_line_col(text: &[u8]) -> (usize, usize)
     ensures { result ≡ line_col text.now (length text.now) }
 {
-    // where the last line begins
+    // where the last line begins; it has no LF
     let from = text
         .iter()
         .rposition(|b| *b == b'\n')
         .map_or(0, |feed| feed + 1);
     (
-        1 + count_line_feeds(text),
+        1 + count_line_feeds(&text[..from]),
         1 + count_characters(&text[from..]),
     )
 }
