@@ -5,3 +5,4 @@
 mod builds;
 #[cfg(test)]
 mod calls;
+pub mod depths;

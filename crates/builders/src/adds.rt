@@ -1,5 +1,5 @@
 //! Adding pairs.
-ghost use Rattle.std.specs.Prelude.{◌≡◌, ◌+◌, false, length, Some, None, is_ok, if◌then◌else◌};
+ghost use Rattle.std.specs.Prelude.{◌≡◌, ◌+◌, false, length, Some, None, OnErr, is_ok, if◌then◌else◌};
 ghost use Rattle.text.specs.Refusing.{unless};
 ghost use Rattle.builders.specs.Calls.{append_fault, full_fault, grown, open_fault, unlawful_fault};
 
@@ -80,10 +80,10 @@ impl PairsBuilder {
         ensures nodes { N.list nodes.new
             ≡ (if is_ok result then grown (N.list nodes.old) rule start end self.old.depth
             else N.list nodes.old) }
-        ensures builder { self.new
-            ≡ (if is_ok result
-            then record { depth = self.old.depth; to_tag = Some (length (N.list nodes.old)) }
-            else self.old) }
+        ensures depth { self.new.depth ≡ self.old.depth }
+        ensures tags { self.new.to_tag
+            ≡ (if is_ok result then Some (length (N.list nodes.old)) else self.old.to_tag) }
+        ensures refused { OnErr result (self.new ≡ self.old) }
     {
         self.check_rule(nodes)?;
         let at = nodes.len();
@@ -106,9 +106,10 @@ impl PairsBuilder {
         ensures nodes { N.list nodes.new
             ≡ (if is_ok result then grown (N.list nodes.old) rule start end self.old.depth
             else N.list nodes.old) }
-        ensures builder { self.new
-            ≡ (if is_ok result then record { depth = self.old.depth + 1; to_tag = None }
-            else self.old) }
+        ensures depth { self.new.depth
+            ≡ (if is_ok result then self.old.depth + 1 else self.old.depth) }
+        ensures tags { self.new.to_tag ≡ (if is_ok result then None else self.old.to_tag) }
+        ensures refused { OnErr result (self.new ≡ self.old) }
     {
         self.check_open(nodes)?;
         self.add(nodes, rule, start, end);

@@ -1,5 +1,5 @@
 //! Going one up.
-ghost use Rattle.std.specs.Prelude.{◌≡◌, ◌-◌, is_ok, if◌then◌else◌};
+ghost use Rattle.std.specs.Prelude.{◌≡◌, ◌-◌, OnErr, is_ok, if◌then◌else◌};
 ghost use Rattle.text.specs.Refusing.{unless};
 ghost use Rattle.queues.specs.Records.{depths};
 ghost use Rattle.builders.specs.Calls.{close_fault, last_at};
@@ -21,13 +21,12 @@ impl PairsBuilder {
     /// Refused, and nothing has changed, at depth 0, where the list is not lawful, and where it has no node of that depth.
     pub fn close<R: Copy, N: Nodes<R>>(&mut self, nodes: &N) -> Result<(), BuilderFault>
         ensures fault { result ≡ unless (close_fault self.old.depth (N.list nodes.now)) tt }
-        ensures builder { self.new
-            ≡ (if is_ok result
-            then record {
-              depth = self.old.depth - 1;
-              to_tag = last_at (self.old.depth - 1) (depths (N.list nodes.now));
-            }
-            else self.old) }
+        ensures depth { self.new.depth
+            ≡ (if is_ok result then self.old.depth - 1 else self.old.depth) }
+        ensures tags { self.new.to_tag
+            ≡ (if is_ok result then last_at (self.old.depth - 1) (depths (N.list nodes.now))
+            else self.old.to_tag) }
+        ensures refused { OnErr result (self.new ≡ self.old) }
     {
         let count = nodes.len() as u64;
         let depth = self

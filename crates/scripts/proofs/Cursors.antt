@@ -1,10 +1,12 @@
 -- A line taken off what is left of a script, and what the lines left come to.
-use Rattle.std.proofs.Common.{◌≡◌, ℕ, ◌+◌, true, false, length, Some, None, Ok, Err, Option, Result, sym, refl, ap, ◌∙◌, MatchResult, ok_or, arith}
+use Rattle.std.proofs.Common.{◌≡◌, ℕ, ◌+◌, true, false, List, [], ◌∷◌, length, Some, None, Ok, Err, Option, Result, sym, refl, ap, ◌∙◌, MatchResult, ok_or, arith}
 use Rattle.std.specs.Result.{result_map_both}
+use Rattle.text.specs.Refusing.{unless}
 use Rattle.scripts.specs.Commands.{Order, ending, line_order}
 use Rattle.scripts.specs.Cursors.{IsNext, order_at, outcome_of, shown_of}
 use Rattle.scripts.specs.Kinds.{kind_codes, kind_of}
-use Rattle.scripts.specs.Outcomes.{blank, line_refusal, refused, started}
+use Rattle.scripts.specs.Lines.{lines}
+use Rattle.scripts.specs.Outcomes.{after_show, blank, line_refusal, refused, started}
 use Rattle.scripts.specs.Steps.{Drawn, stepped}
 use Rattle.scripts.specs.declared.cursor.Cursor.{Cursor}
 use Rattle.scripts.specs.declared.cursor.Line.{Line}
@@ -12,7 +14,12 @@ use Rattle.scripts.specs.declared.faults.ScriptFault.{ScriptFault}
 use Rattle.scripts.specs.declared.faults.ScriptRefusal.{ScriptRefusal}
 use Rattle.scripts.specs.declared.kinds.Kind.{Kind}
 use Rattle.scripts.specs.declared.numbers.Misread.{Misread}
-use Rattle.scripts.proofs.Turns.{Taken, taken, adds, shows, stops, refuses, kinds, unkind}
+use Rattle.scripts.proofs.Turns.{lines_step, Taken, taken, adds, shows, stops, refuses, kinds, unkind}
+
+-- where anything is left, a line is
+pub followed : (line place : ℕ) (rest : List ℕ) → (length rest ≡ 0 → ⊥) → Err (line_refusal line place) ≡ unless (after_show line place (lines rest)) (tt {0})
+followed line place [] h = absurd (h refl)
+followed line place (b ∷ bs) h = rw (lines_step b bs)
 
 -- a line's order, without what its refusal would be
 pub ordered : (l : Line) (o : Order) → Ok o ≡ order_at l → Ok o ≡ line_order l.bytes.now

@@ -1,15 +1,14 @@
 -- What an outcome comes to at the test of its text.
-use Rattle.std.proofs.Common.{◌≡◌, ℕ, ◌+◌, ◌-◌, ◌≤◌, List, [], ◌∷◌, length, Some, None, Ok, Err, Option, Result, MatchResult, sym, refl, ap, ◌∙◌, arith}
+use Rattle.std.proofs.Common.{◌≡◌, ℕ, ◌≤◌, List, length, Some, None, Ok, Err, Option, Result, MatchResult, sym, refl, ap, ◌∙◌, arith}
 use Rattle.std.proofs.lemmas.Bool.{le-ltb}
 use Rattle.text.specs.Refusing.{unless}
 use Rattle.text.proofs.Lawful.{one_verdict}
-use Rattle.scripts.specs.Lines.{first_line, lines}
 use Rattle.builders.specs.Builds.{judged as built}
 use Rattle.builders.specs.Queues.{fault_of}
 use Rattle.builders.specs.declared.builds.BuildFault.{BuildFault}
 use Rattle.builders.specs.declared.builds.RefusedBuild.{RefusedBuild}
 use Rattle.queues.specs.declared.records.Node.{Node}
-use Rattle.scripts.specs.Outcomes.{Outcome, refused, shown, shown_before, after_show, line_refusal, outcome, script_limit, sized, started}
+use Rattle.scripts.specs.Outcomes.{Outcome, refused, shown, outcome, script_limit, sized, started}
 use Rattle.scripts.specs.Reading.{Built, BuiltAt, Fails, Settles, judged, printed, token_limit}
 use Rattle.scripts.specs.Steps.{Drawn, StopsAt, drawn}
 use Rattle.scripts.specs.declared.faults.ScriptFault.{ScriptFault}
@@ -17,7 +16,6 @@ use Rattle.scripts.specs.declared.faults.ScriptFault.TheVariants.{Build}
 use Rattle.scripts.specs.declared.faults.ScriptError.{ScriptError}
 use Rattle.scripts.specs.declared.faults.ScriptError.TheVariants.{Refused, NoMemory}
 use Rattle.scripts.specs.declared.faults.ScriptRefusal.{ScriptRefusal}
-use Rattle.scripts.proofs.Turns.{lines_step}
 
 -- the size comes first
 pub under : (script : List ℕ) → length script ≤ script_limit → Ok tt ≡ sized script
@@ -46,15 +44,13 @@ built_at line d (Err b) s p is = rw is (b.fault, (p, refl))
 pub fails : (line : ℕ) (d : Drawn) (next : Option ScriptRefusal) (f : ScriptRefusal) → BuiltAt line d (Err f) → Settles (shown d line next) (Err f)
 fails line d next f p = (Err p.0, (p.1.0, ap Err p.1.1))
 
-pub follows : (size line n : ℕ) (d : Drawn) (after l rest : List ℕ) (f : ScriptRefusal) → BuiltAt line d (Ok n) → Some (l, rest) ≡ first_line after → f ≡ line_refusal (line + 1) (size - length after) → Settles (shown_before size line d after) (Err f)
-follows size line n d [] l rest f p some is = let z : ◌≡◌ {A = ℕ} 0 1 = cc in absurd (omega arith)
-follows size line n d (b ∷ bs) l rest f p some is =
-    let e : after_show (line + 1) (size - length (b ∷ bs)) (lines (b ∷ bs)) ≡ Some (line_refusal (line + 1) (size - length (b ∷ bs))) = rw (lines_step b bs) in
-    (Ok n, (p, ap Err is ∙ sym (ap (λ o. unless o (printed d n)) e)))
+pub follows : (line n : ℕ) (d : Drawn) (next : Option ScriptRefusal) (f : ScriptRefusal) → BuiltAt line d (Ok n) → Err f ≡ unless next (tt {0}) → Settles (shown d line next) (Err f)
+follows line n d None f p is = let z : ◌≡◌ {A = ℕ} 0 1 = cc in absurd (omega arith)
+follows line n d (Some g) f p is = let same : f ≡ g = cc in (Ok n, (p, ap Err same))
 
-pub ends : (size line n : ℕ) (d : Drawn) (after bytes : List ℕ) → BuiltAt line d (Ok n) → first_line after ≡ None → bytes ≡ printed d n → Settles (shown_before size line d after) (Ok bytes)
-ends size line n d [] bytes p none is = (Ok n, (p, ap Ok is))
-ends size line n d (b ∷ bs) bytes p none is = let z : ◌≡◌ {A = ℕ} 0 1 = cc in absurd (omega arith)
+pub ends : (line n : ℕ) (d : Drawn) (next : Option ScriptRefusal) (bytes : List ℕ) → BuiltAt line d (Ok n) → Ok tt ≡ unless next (tt {0}) → bytes ≡ printed d n → Settles (shown d line next) (Ok bytes)
+ends line n d None bytes p none is = (Ok n, (p, ap Ok is))
+ends line n d (Some g) bytes p none is = let z : ◌≡◌ {A = ℕ} 0 1 = cc in absurd (omega arith)
 
 one_built : (d : Drawn) (a b : Result ℕ BuildFault) → Built d a → Built d b → a ≡ b
 one_built (drawn text labels nodes depth to) a b p q =

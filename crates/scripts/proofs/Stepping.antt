@@ -77,29 +77,29 @@ pub unruled : (codes code : ℕ) (d : Drawn) → codes ≤ code → ruled codes 
 unruled codes code d h = rw (le-leb codes code h)
 
 -- or the pair
-pub added : {R : Type 0} (f : R → ℕ) (ns ns' : List (Node R)) (x : R) (codes code start end depth depth' : ℕ) (to : Option ℕ) (b' : PairsBuilder) (text labels : List ℕ) → f x ≡ code → f x < codes → ns' ≡ grown ns x start end depth → b' ≡ record { depth = depth'; to_tag = to } → ruled codes code (drawn text labels (grown (coding f ns) code start end depth) depth' to) ≡ Ok (drawn text labels (coding f ns') b'.depth b'.to_tag)
-added f ns ns' x codes code start end depth depth' to b' text labels is below nodes builder =
+pub added : {R : Type 0} (f : R → ℕ) (ns ns' : List (Node R)) (x : R) (codes code start end depth depth' : ℕ) (to : Option ℕ) (b' : PairsBuilder) (text labels : List ℕ) → f x ≡ code → f x < codes → ns' ≡ grown ns x start end depth → b'.depth ≡ depth' → b'.to_tag ≡ to → ruled codes code (drawn text labels (grown (coding f ns) code start end depth) depth' to) ≡ Ok (drawn text labels (coding f ns') b'.depth b'.to_tag)
+added f ns ns' x codes code start end depth depth' to b' text labels is below nodes deep to_tag =
     let l : leb codes code ≡ false = lt-leb codes code (omega (arith, is, below)) in
     let m : coding f ns' ≡ grown (coding f ns) code start end depth = ap (coding f) nodes ∙ coding-grown f ns x start end depth ∙ ap (λ k. grown (coding f ns) k start end depth) is in
-    rw (l, m, builder)
+    rw (l, m, deep, to_tag)
 
-pub append_done : {R : Type 0} (f : R → ℕ) (full : Bool) (ns ns' : List (Node R)) (x : R) (codes : ℕ) (p : Pair) (b b' : PairsBuilder) (text labels : List ℕ) → Roomy full ns (Ok tt) → Ok tt ≡ answered (append_fault full ns) → f x ≡ p.code → f x < codes → ns' ≡ grown ns x p.start p.end b.depth → b' ≡ record { depth = b.depth; to_tag = Some (length ns) } → stepped codes (adds p) (drawn text labels (coding f ns) b.depth b.to_tag) ≡ Ok (drawn text labels (coding f ns') b'.depth b'.to_tag)
-append_done f full ns ns' x codes p b b' text labels room e is below nodes builder =
+pub append_done : {R : Type 0} (f : R → ℕ) (full : Bool) (ns ns' : List (Node R)) (x : R) (codes : ℕ) (p : Pair) (b b' : PairsBuilder) (text labels : List ℕ) → Roomy full ns (Ok tt) → Ok tt ≡ answered (append_fault full ns) → f x ≡ p.code → f x < codes → ns' ≡ grown ns x p.start p.end b.depth → b'.depth ≡ b.depth → b'.to_tag ≡ Some (length ns) → stepped codes (adds p) (drawn text labels (coding f ns) b.depth b.to_tag) ≡ Ok (drawn text labels (coding f ns') b'.depth b'.to_tag)
+append_done f full ns ns' x codes p b b' text labels room e is below nodes deep to_tag =
     call_done (append_fault full ns) _ (append_same f full ns room) (ruled codes p.code (drawn text labels (grown (coding f ns) p.code p.start p.end b.depth) b.depth (Some (length (coding f ns))))) e
     ∙ ap (λ n. ruled codes p.code (drawn text labels (grown (coding f ns) p.code p.start p.end b.depth) b.depth (Some n))) (coding-length f ns)
-    ∙ added f ns ns' x codes p.code p.start p.end b.depth b.depth (Some (length ns)) b' text labels is below nodes builder
+    ∙ added f ns ns' x codes p.code p.start p.end b.depth b.depth (Some (length ns)) b' text labels is below nodes deep to_tag
 
-pub open_done : {R : Type 0} (f : R → ℕ) (full : Bool) (ns ns' : List (Node R)) (x : R) (codes : ℕ) (p : Pair) (b b' : PairsBuilder) (text labels : List ℕ) → Roomy full ns (Ok tt) → Ok tt ≡ answered (open_fault full b.depth ns) → f x ≡ p.code → f x < codes → ns' ≡ grown ns x p.start p.end b.depth → b' ≡ record { depth = b.depth + 1; to_tag = None } → stepped codes (opens p) (drawn text labels (coding f ns) b.depth b.to_tag) ≡ Ok (drawn text labels (coding f ns') b'.depth b'.to_tag)
-open_done f full ns ns' x codes p b b' text labels room e is below nodes builder =
+pub open_done : {R : Type 0} (f : R → ℕ) (full : Bool) (ns ns' : List (Node R)) (x : R) (codes : ℕ) (p : Pair) (b b' : PairsBuilder) (text labels : List ℕ) → Roomy full ns (Ok tt) → Ok tt ≡ answered (open_fault full b.depth ns) → f x ≡ p.code → f x < codes → ns' ≡ grown ns x p.start p.end b.depth → b'.depth ≡ b.depth + 1 → b'.to_tag ≡ None → stepped codes (opens p) (drawn text labels (coding f ns) b.depth b.to_tag) ≡ Ok (drawn text labels (coding f ns') b'.depth b'.to_tag)
+open_done f full ns ns' x codes p b b' text labels room e is below nodes deep to_tag =
     call_done (open_fault full b.depth ns) _ (open_same f full b.depth ns room) (ruled codes p.code (drawn text labels (grown (coding f ns) p.code p.start p.end b.depth) (b.depth + 1) None)) e
-    ∙ added f ns ns' x codes p.code p.start p.end b.depth (b.depth + 1) None b' text labels is below nodes builder
+    ∙ added f ns ns' x codes p.code p.start p.end b.depth (b.depth + 1) None b' text labels is below nodes deep to_tag
 
 -- the end of a pair
-pub close_done : {R : Type 0} (f : R → ℕ) (ns : List (Node R)) (codes : ℕ) (b b' : PairsBuilder) (text labels : List ℕ) → Ok tt ≡ answered (close_fault b.depth ns) → b' ≡ record { depth = b.depth - 1; to_tag = last_at (b.depth - 1) (depths ns) } → stepped codes closes (drawn text labels (coding f ns) b.depth b.to_tag) ≡ Ok (drawn text labels (coding f ns) b'.depth b'.to_tag)
-close_done f ns codes b b' text labels e builder =
+pub close_done : {R : Type 0} (f : R → ℕ) (ns : List (Node R)) (codes : ℕ) (b b' : PairsBuilder) (text labels : List ℕ) → Ok tt ≡ answered (close_fault b.depth ns) → b'.depth ≡ b.depth - 1 → b'.to_tag ≡ last_at (b.depth - 1) (depths ns) → stepped codes closes (drawn text labels (coding f ns) b.depth b.to_tag) ≡ Ok (drawn text labels (coding f ns) b'.depth b'.to_tag)
+close_done f ns codes b b' text labels e deep to_tag =
     call_done (close_fault b.depth ns) _ (close_same f b.depth ns) (Ok (drawn text labels (coding f ns) (b.depth - 1) (last_at (b.depth - 1) (depths (coding f ns))))) e
     ∙ ap (λ ds. Ok (drawn text labels (coding f ns) (b.depth - 1) (last_at (b.depth - 1) ds))) (coding-depths f ns)
-    ∙ sym (ap (λ (b : PairsBuilder). Ok (drawn text labels (coding f ns) b.depth b.to_tag)) builder)
+    ∙ rw (deep, to_tag)
 
 -- a tag
 pub tag_done : {R : Type 0} (f : R → ℕ) (ns ns' : List (Node R)) (codes depth : ℕ) (to : Option ℕ) (t : Tag) (text labels labels' bytes : List ℕ) → t ≡ record { place = length labels; length = length bytes } → labels' ≡ labels ++ bytes → Ok tt ≡ answered (tag_fault to t ns) → ns' ≡ tagged_at to t ns → stepped codes (tags bytes) (drawn text labels (coding f ns) depth to) ≡ Ok (drawn text labels' (coding f ns') depth to)

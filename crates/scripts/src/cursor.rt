@@ -1,8 +1,10 @@
 //! How far a script has been read.
-ghost use Rattle.std.specs.Prelude.{◌≡◌, ◌+◌, ◌≤◌, length, MatchOption, OnOk};
+ghost use Rattle.std.specs.Prelude.{◌≡◌, ◌+◌, ◌-◌, ◌≤◌, length, MatchOption, OnOk};
+ghost use Rattle.text.specs.Refusing.{unless};
 ghost use Rattle.scripts.specs.Commands.{orderly};
 ghost use Rattle.scripts.specs.Laws.{ScriptLaws};
-ghost use Rattle.scripts.specs.Outcomes.{line_after, line_refusal, script_limit, sized};
+ghost use Rattle.scripts.specs.Lines.{lines};
+ghost use Rattle.scripts.specs.Outcomes.{after_show, line_after, line_refusal, script_limit, sized};
 
 use crate::commands::{Command, read_command};
 use crate::faults::{ScriptFault, ScriptRefusal};
@@ -67,12 +69,12 @@ pub(crate) struct Cursor<'s> {
     ghost counted: { line + length rest.now ≤ size + 2 },
 }
 
-// The number of the line in which the byte after `front` stands.
+// The number of the line in which the byte after `front` stands. By a sum, as `spans::count_characters`.
 fn line_after(front: &[u8]) -> u32
     requires { length front.now ≤ script_limit }
     ensures { result ≡ line_after front.now }
 {
-    let feeds = front.iter().filter(|byte| **byte == b'\n').count();
+    let feeds: usize = front.iter().map(|byte| usize::from(*byte == b'\n')).sum();
     feeds as u32 + 1
 }
 
@@ -110,6 +112,17 @@ impl<'s> Cursor<'s> {
         ensures { result ≡ line_refusal self.now.line self.now.size }
     {
         refuse(self.line, self.size)
+    }
+
+    /// Refuses a line where the script has to end. Its bytes are not looked at.
+    pub(crate) fn check_end(&self) -> Result<(), ScriptRefusal>
+        ensures { let place = self.now.size - length self.now.rest.now in
+            result ≡ unless (after_show self.now.line place (lines self.now.rest.now)) tt }
+    {
+        if self.rest.is_empty() {
+            return Ok(());
+        }
+        Err(refuse(self.line, self.size - self.rest.len()))
     }
 
     /// Takes the first line off, if any is left.

@@ -1,5 +1,5 @@
 //! What a script's lines make, one after the other.
-ghost use Rattle.std.specs.Prelude.{◌≡◌, ◌≤◌, MatchResult};
+ghost use Rattle.std.specs.Prelude.{◌≡◌, ◌≤◌, [], None, MatchResult};
 ghost use Rattle.scripts.specs.Commands.{adds, closes, opens, order_of, tags};
 ghost use Rattle.scripts.specs.declared.faults.ScriptFault.TheVariants.{NoRule};
 ghost use Rattle.scripts.specs.declared.problems.Problem.TheVariants.{NoRoom};
@@ -23,17 +23,40 @@ use std::marker::Model;
 /// The most nodes that a script may have.
 pub const NODES: usize = 512;
 
-/// What the lines so far have made: the text, the label bytes of the tags, the nodes, and the builder.
-// No derived equality: the nodes have none.
+/// What the lines so far have made beside the nodes: the text, the label bytes of the tags, and the builder.
+// No derived equality: it is never looked at but as a part of a drawing.
 #[derive(Drop)]
-pub struct Draft<'n, R: RuleType> {
+pub struct Draft {
     pub(crate) text: Vec<u8>,
     pub(crate) labels: Vec<u8>,
-    pub(crate) nodes: SliceNodes<'n, R>,
     pub(crate) builder: PairsBuilder,
 }
 
-impl<'n, R: RuleType> Model for Draft<'n, R> {
+impl Draft {
+    /// No text, no labels, and a builder at depth 0.
+    pub fn new(heap: Global) -> Draft
+        ensures text { result.text.items ≡ [] }
+        ensures labels { result.labels.items ≡ [] }
+        ensures depth { result.builder.depth ≡ 0 }
+        ensures tags { result.builder.to_tag ≡ None }
+    {
+        Draft {
+            text: Vec::new(heap),
+            labels: Vec::new(heap),
+            builder: PairsBuilder::new(),
+        }
+    }
+}
+
+/// A draft with its nodes: all that the lines so far have made.
+// No derived equality: the nodes have none.
+#[derive(Drop)]
+pub struct Drawing<'n, R: RuleType> {
+    pub(crate) draft: Draft,
+    pub(crate) nodes: SliceNodes<'n, R>,
+}
+
+impl<'n, R: RuleType> Model for Drawing<'n, R> {
     ghost use Rattle.std.specs.Prelude.{vec_items};
     ghost use Rattle.queues.specs.Slices.{nodes_of};
     ghost use Rattle.scripts.specs.Steps.{Drawn, drawn, coding};
@@ -41,8 +64,8 @@ impl<'n, R: RuleType> Model for Draft<'n, R> {
     ghost Value = { Drawn };
 
     ghost view = { λ d.
-        drawn (vec_items d.text) (vec_items d.labels)
-        (coding R.coded (nodes_of d.nodes)) d.builder.depth d.builder.to_tag };
+        drawn (vec_items d.draft.text) (vec_items d.draft.labels)
+        (coding R.coded (nodes_of d.nodes)) d.draft.builder.depth d.draft.builder.to_tag };
 }
 
 // Refuses a list of 512 nodes; a list that takes no node before that has too little room.
@@ -78,16 +101,14 @@ fn small(n: usize) -> Result<u32, Problem>
     u32::try_from(n).map_err(|_| Problem::NoRoom)
 }
 
-impl<'n, R: RuleType> Draft<'n, R> {
-    /// No text, no labels, no nodes in the slots, and a builder at depth 0.
-    pub fn new(heap: Global, slots: &'n mut [Node<R>]) -> Draft<'n, R>
+impl<'n, R: RuleType> Drawing<'n, R> {
+    /// A new draft, and no nodes in the slots.
+    pub fn new(heap: Global, slots: &'n mut [Node<R>]) -> Drawing<'n, R>
         ensures { result ≡ blank }
     {
-        Draft {
-            text: Vec::new(heap),
-            labels: Vec::new(heap),
+        Drawing {
+            draft: Draft::new(heap),
             nodes: SliceNodes::over(slots, 0),
-            builder: PairsBuilder::new(),
         }
     }
 
@@ -96,9 +117,10 @@ impl<'n, R: RuleType> Draft<'n, R> {
         ensures { Steps (stepped R.CODES (adds pair) self.old) self.new result }
     {
         check_count(&self.nodes)?;
-        self.builder.check_rule(&self.nodes)?;
+        self.draft.builder.check_rule(&self.nodes)?;
         let rule = rule_of(pair.code)?;
-        self.builder
+        self.draft
+            .builder
             .rule(&mut self.nodes, rule, pair.start, pair.end)?;
         Ok(())
     }
@@ -107,9 +129,10 @@ impl<'n, R: RuleType> Draft<'n, R> {
         ensures { Steps (stepped R.CODES (opens pair) self.old) self.new result }
     {
         check_count(&self.nodes)?;
-        self.builder.check_open(&self.nodes)?;
+        self.draft.builder.check_open(&self.nodes)?;
         let rule = rule_of(pair.code)?;
-        self.builder
+        self.draft
+            .builder
             .open(&mut self.nodes, rule, pair.start, pair.end)?;
         Ok(())
     }
@@ -117,7 +140,7 @@ impl<'n, R: RuleType> Draft<'n, R> {
     fn close(&mut self) -> Result<(), Problem>
         ensures { Steps (stepped R.CODES closes self.old) self.new result }
     {
-        self.builder.close(&self.nodes)?;
+        self.draft.builder.close(&self.nodes)?;
         Ok(())
     }
 
@@ -125,11 +148,11 @@ impl<'n, R: RuleType> Draft<'n, R> {
         ensures { Steps (stepped R.CODES (tags bytes.now) self.old) self.new result }
     {
         let tag = Tag {
-            place: small(self.labels.len())?,
+            place: small(self.draft.labels.len())?,
             length: small(bytes.len())?,
         };
-        self.labels.extend_from_slice(bytes)?;
-        self.builder.tag(&mut self.nodes, tag)?;
+        self.draft.labels.extend_from_slice(bytes)?;
+        self.draft.builder.tag(&mut self.nodes, tag)?;
         Ok(())
     }
 
@@ -138,8 +161,8 @@ impl<'n, R: RuleType> Draft<'n, R> {
         ensures { Steps (stepped R.CODES (order_of command.entry) self.old) self.new result }
     {
         match command {
-            Command::Text(bytes) => self.text.extend_from_slice(bytes)?,
-            Command::Next => self.text.extend_from_slice(b"\n")?,
+            Command::Text(bytes) => self.draft.text.extend_from_slice(bytes)?,
+            Command::Next => self.draft.text.extend_from_slice(b"\n")?,
             Command::Rule(pair) => self.rule(pair)?,
             Command::Open(pair) => self.open(pair)?,
             Command::Close => self.close()?,

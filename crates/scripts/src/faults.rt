@@ -74,12 +74,21 @@ impl From<ScriptFault> for Refusal {
     }
 }
 
+impl From<ScriptRefusal> for Refusal {
+    ghost from_gives = { λ e r. r ≡ refusal_of e.fault };
+
+    /// The refusal of the fault, whatever its line.
+    fn from(e: ScriptRefusal) -> Refusal {
+        Refusal::from(e.fault)
+    }
+}
+
 impl fmt::Display for ScriptRefusal {
     ghost output = { λ f. Some (refusal_line f) };
 
     /// The line that answers a refused script: `refused`, the number, the place, and the script's line.
     fn fmt<W: fmt::Write>(&self, f: &mut fmt::Formatter<W>) -> fmt::Result {
-        let Refusal { number, place } = Refusal::from(self.fault);
+        let Refusal { number, place } = Refusal::from(*self);
         let line = self.line;
         write!(f, "refused {number} {place} {line}")
     }

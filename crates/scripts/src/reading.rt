@@ -7,10 +7,11 @@ ghost use Rattle.scripts.specs.Laws.{ScriptLaws};
 ghost use Rattle.scripts.specs.Outcomes.{blank, outcome, refused, started};
 ghost use Rattle.scripts.specs.Reading.{BuiltAt, Fails, Means, Settles, token_limit};
 ghost use Rattle.scripts.specs.Steps.{coding, drawn};
+ghost use Rattle.scripts.specs.declared.kinds.Kind.TheVariants.{Plant, Grammar};
 
 pub use crate::cursor::LIMIT;
 use crate::cursor::{Cursor, check_size};
-use crate::drafts::{Draft, NODES};
+use crate::drafts::{Draft, Drawing, NODES};
 use crate::faults::{ScriptError, ScriptRefusal};
 use crate::kinds::{Kind, read_kind};
 use crate::records::Source;
@@ -36,10 +37,13 @@ fn first_kind(lines: &mut Cursor<'_>) -> Result<Kind, ScriptRefusal>
 }
 
 // Does what the lines say, up to `show`: the number of its line.
-fn gather<R: RuleType>(draft: &mut Draft<'_, R>, lines: &mut Cursor<'_>) -> Result<u32, ScriptError>
+fn gather<R: RuleType>(
+    drawing: &mut Drawing<'_, R>,
+    lines: &mut Cursor<'_>,
+) -> Result<u32, ScriptError>
     ensures outcome { MatchResult result
-        (λ n. outcome_of R.CODES draft.old lines.old ≡ shown_of n draft.new lines.new)
-        (Fails (outcome_of R.CODES draft.old lines.old)) }
+        (λ n. outcome_of R.CODES drawing.old lines.old ≡ shown_of n drawing.new lines.new)
+        (Fails (outcome_of R.CODES drawing.old lines.old)) }
     ensures line { IfOk result (λ n. lines.new.line ≡ n + 1) }
 {
     while let Some(line) = lines.take_line() {
@@ -47,7 +51,7 @@ fn gather<R: RuleType>(draft: &mut Draft<'_, R>, lines: &mut Cursor<'_>) -> Resu
         if command.ends() {
             return Ok(line.number);
         }
-        draft.step(command, line.number)?;
+        drawing.step(command, line.number)?;
     }
     Err(lines.missing().into())
 }
@@ -75,19 +79,21 @@ fn build<R: RuleType>(
 // Builds at `show`, tests that nothing follows, and makes the record.
 fn finish<R: RuleType>(
     heap: Global,
-    draft: Draft<'_, R>,
+    drawing: Drawing<'_, R>,
+    buffer: &mut [Token<R>],
     number: u32,
-    mut lines: Cursor<'_>,
+    lines: Cursor<'_>,
 ) -> Result<Vec<u8>, ScriptError>
-    requires { lines.line ≡ number + 1 }
+    requires room { length buffer.old ≡ token_limit }
+    requires line { lines.line ≡ number + 1 }
     ensures { MatchResult result
-        (λ v. Settles (shown_of number draft.entry lines.entry) (Ok v.items))
-        (Fails (shown_of number draft.entry lines.entry)) }
+        (λ v. Settles (shown_of number drawing.entry lines.entry) (Ok v.items))
+        (Fails (shown_of number drawing.entry lines.entry)) }
 {
+    let Drawing { draft, nodes } = drawing;
     let Draft {
         text,
         labels,
-        nodes,
         builder,
     } = draft;
     let source = Source {
@@ -95,35 +101,66 @@ fn finish<R: RuleType>(
         labels: &labels,
         nodes: &nodes,
     };
-    let mut buffer = vec![in heap; Token::Start {
-        link: 0,
-        position: 0
-    }; TOKENS]?;
-    let tokens = build(builder, &source, number, &mut buffer)?;
-    if let Some(line) = lines.take_line() {
-        return Err(line.refusal(0).into());
-    }
+    let tokens = build(builder, &source, number, buffer)?;
+    lines.check_end()?;
     Ok(source.record(heap, tokens)?)
 }
 
 // The record that the lines after the first one make.
-fn run<R: RuleType + Default>(heap: Global, mut lines: Cursor<'_>) -> Result<Vec<u8>, ScriptError>
+fn run<R: RuleType>(
+    heap: Global,
+    slots: &mut [Node<R>],
+    buffer: &mut [Token<R>],
+    mut lines: Cursor<'_>,
+) -> Result<Vec<u8>, ScriptError>
+    requires { length buffer.old ≡ token_limit }
     ensures { MatchResult result
         (λ v. Settles (outcome_of R.CODES blank lines.entry) (Ok v.items))
         (Fails (outcome_of R.CODES blank lines.entry)) }
 {
-    // slots, and no Vec of the nodes: the library's list is over what it is lent, and looks at no slot past its end
-    let unused = Node {
+    let mut drawing = Drawing::new(heap, slots);
+    let number = gather(&mut drawing, &mut lines)?;
+    finish(heap, drawing, buffer, number, lines)
+}
+
+// What the slots past the list's end hold, which are never looked at.
+fn unused<R: Default>() -> Node<R> {
+    Node {
         rule: R::default(),
         start: 0,
         end: 0,
         depth: 0,
         tag: None,
-    };
-    let mut slots = vec![in heap; unused; NODES]?;
-    let mut draft = Draft::new(heap, &mut slots);
-    let number = gather(&mut draft, &mut lines)?;
-    finish(heap, draft, number, lines)
+    }
+}
+
+// The same of the plant's rules. Arrays of each kind of rules, and no memory taken: a script is not refused for want of any
+// before its lines are looked at.
+fn run_plant(heap: Global, lines: Cursor<'_>) -> Result<Vec<u8>, ScriptError>
+    ensures { MatchResult result
+        (λ v. Settles (outcome_of (kind_codes Plant) blank lines.entry) (Ok v.items))
+        (Fails (outcome_of (kind_codes Plant) blank lines.entry)) }
+{
+    let mut slots = [unused::<PlantRule>(); NODES];
+    let mut buffer = [Token::Start {
+        link: 0,
+        position: 0,
+    }; TOKENS];
+    run(heap, &mut slots, &mut buffer, lines)
+}
+
+// The same of the grammars' rules.
+fn run_grammar(heap: Global, lines: Cursor<'_>) -> Result<Vec<u8>, ScriptError>
+    ensures { MatchResult result
+        (λ v. Settles (outcome_of (kind_codes Grammar) blank lines.entry) (Ok v.items))
+        (Fails (outcome_of (kind_codes Grammar) blank lines.entry)) }
+{
+    let mut slots = [unused::<GrammarRule>(); NODES];
+    let mut buffer = [Token::Start {
+        link: 0,
+        position: 0,
+    }; TOKENS];
+    run(heap, &mut slots, &mut buffer, lines)
 }
 
 /// The bytes of the record that a script makes. Refused are a script over the limit, before all else; then the first line that
@@ -137,7 +174,7 @@ pub fn read(heap: Global, script: &[u8]) -> Result<Vec<u8>, ScriptError>
     check_size(script)?;
     let mut lines = Cursor::new(script);
     match first_kind(&mut lines)? {
-        Kind::Plant => run::<PlantRule>(heap, lines),
-        Kind::Grammar => run::<GrammarRule>(heap, lines),
+        Kind::Plant => run_plant(heap, lines),
+        Kind::Grammar => run_grammar(heap, lines),
     }
 }

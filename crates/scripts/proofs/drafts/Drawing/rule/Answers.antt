@@ -3,7 +3,7 @@ use Rattle.queues.specs.Slices.{nodes_of}
 use Rattle.std.proofs.lemmas.Result.{err_from_is_err_and}
 use Rattle.builders.specs.Calls.{append_fault}
 use Rattle.scripts.proofs.Stepping.{append_done, append_same, call_done, call_refused, unruled}
-use Rattle.scripts.proofs.drafts.Draft.rule.Goals as goal
+use Rattle.scripts.proofs.drafts.Drawing.rule.Goals as goal
 
 pub returns-in_err-check_rule : goal.returns-in_err-check_rule
 returns-in_err-check_rule g c =
@@ -30,4 +30,4 @@ pub returns : goal.returns
 returns g c =
     let s = c.self.inside in
     rw (← c.self.view_is)
-    (append_done g.R.RuleType.coded (leb (length s.nodes.nodes.now) s.nodes.len) (nodes_of s.nodes) (nodes_of c.rule.new.nodes) c.in_ok-rule.rule g.R.RuleType.CODES c.args.pair s.builder c.rule.new.self (vec_items s.text) (vec_items s.labels) c.in_ok-check_count.ensures c.in_ok-check_rule.ensures c.in_ok-rule.ensures (g.met.R.RuleType.below c.in_ok-rule.rule) c.in_ok-rule-2.ensures.nodes c.in_ok-rule-2.ensures.builder)
+    (append_done g.R.RuleType.coded (leb (length s.nodes.nodes.now) s.nodes.len) (nodes_of s.nodes) (nodes_of c.rule.new.nodes) c.in_ok-rule.rule g.R.RuleType.CODES c.args.pair s.draft.builder c.rule.new.self (vec_items s.draft.text) (vec_items s.draft.labels) c.in_ok-check_count.ensures c.in_ok-check_rule.ensures c.in_ok-rule.ensures (g.met.R.RuleType.below c.in_ok-rule.rule) c.in_ok-rule-2.ensures.nodes c.in_ok-rule-2.ensures.depth c.in_ok-rule-2.ensures.tags)

@@ -3,7 +3,7 @@ use Rattle.queues.specs.Slices.{nodes_of}
 use Rattle.std.proofs.lemmas.Result.{err_from_is_err_and}
 use Rattle.builders.specs.Calls.{open_fault}
 use Rattle.scripts.proofs.Stepping.{open_done, open_same, call_done, call_refused, unruled}
-use Rattle.scripts.proofs.drafts.Draft.open.Goals as goal
+use Rattle.scripts.proofs.drafts.Drawing.open.Goals as goal
 
 pub returns-in_err-check_open : goal.returns-in_err-check_open
 returns-in_err-check_open g c =
@@ -12,7 +12,7 @@ returns-in_err-check_open g c =
     let s = c.self.inside in
     let ns = nodes_of s.nodes in
     let full = leb (length s.nodes.nodes.now) s.nodes.len in
-    rw (← c.self.view_is, p.1, p.2) (call_refused (open_fault full s.builder.depth ns) _ (open_same f full s.builder.depth ns c.in_ok-check_count.ensures) c.in_err-check_open.field-0.0 _ c.in_err-check_open.ensures)
+    rw (← c.self.view_is, p.1, p.2) (call_refused (open_fault full s.draft.builder.depth ns) _ (open_same f full s.draft.builder.depth ns c.in_ok-check_count.ensures) c.in_err-check_open.field-0.0 _ c.in_err-check_open.ensures)
 
 pub returns-in_err-rule : goal.returns-in_err-rule
 returns-in_err-rule g c =
@@ -22,7 +22,7 @@ returns-in_err-rule g c =
     let ns = nodes_of s.nodes in
     let full = leb (length s.nodes.nodes.now) s.nodes.len in
     rw (← c.self.view_is, p.1, p.2)
-    (call_done (open_fault full s.builder.depth ns) _ (open_same f full s.builder.depth ns c.in_ok-check_count.ensures) _ c.in_ok-check_open.ensures
+    (call_done (open_fault full s.draft.builder.depth ns) _ (open_same f full s.draft.builder.depth ns c.in_ok-check_count.ensures) _ c.in_ok-check_open.ensures
     ∙ unruled g.R.RuleType.CODES c.args.pair.code _ c.in_err-rule.ensures.0
     ∙ ap Err (sym c.in_err-rule.ensures.1))
 
@@ -30,4 +30,4 @@ pub returns : goal.returns
 returns g c =
     let s = c.self.inside in
     rw (← c.self.view_is)
-    (open_done g.R.RuleType.coded (leb (length s.nodes.nodes.now) s.nodes.len) (nodes_of s.nodes) (nodes_of c.open.new.nodes) c.in_ok-rule.rule g.R.RuleType.CODES c.args.pair s.builder c.open.new.self (vec_items s.text) (vec_items s.labels) c.in_ok-check_count.ensures c.in_ok-check_open.ensures c.in_ok-rule.ensures (g.met.R.RuleType.below c.in_ok-rule.rule) c.in_ok-open.ensures.nodes c.in_ok-open.ensures.builder)
+    (open_done g.R.RuleType.coded (leb (length s.nodes.nodes.now) s.nodes.len) (nodes_of s.nodes) (nodes_of c.open.new.nodes) c.in_ok-rule.rule g.R.RuleType.CODES c.args.pair s.draft.builder c.open.new.self (vec_items s.draft.text) (vec_items s.draft.labels) c.in_ok-check_count.ensures c.in_ok-check_open.ensures c.in_ok-rule.ensures (g.met.R.RuleType.below c.in_ok-rule.rule) c.in_ok-open.ensures.nodes c.in_ok-open.ensures.depth c.in_ok-open.ensures.tags)
